@@ -6,8 +6,12 @@ use native.Mathlib.Nat.{le-refl, not-suc-le-zero, le-of-suc-le-suc}
 use native.Mathlib.Omega.{arith}
 use lib.ListN.{length, getD, take, drop, length-drop}
 use Rattle.std.specs.shelf.Lists.{between}
-use Rattle.std.proofs.shelf.Lists.{drop-drop}
+use Rattle.std.proofs.shelf.Lists.{drop-drop, drop-more, drop-all}
 use Rattle.std.proofs.shelf.Parts.{first-rest, between-to-end}
+use Rattle.std.specs.declared.option.Option.the-variants.{Some, None}
+use Rattle.base.specs.declared.reasons.Reason.the-variants.{WrongWord}
+use Rattle.base.specs.Refusals.{word-refusal}
+use Rattle.package.specs.Checks.{nothing, refusal}
 use Rattle.package.specs.Items.{Apart}
 
 pub none-left : (words : List ℕ) (place : ℕ) (rem : List ℕ) → rem ≡ drop place words → length rem < 1 → drop place words ≡ []
@@ -26,3 +30,10 @@ apart-at words place rem e h =
       behind = sym (tail ∙ ap (drop 1) e ∙ drop-drop 1 place words);
       size = omega arith;
     }
+
+-- where no word is due, a word is a fault, and the input's end is none
+pub more-left : (words : List ℕ) (place : ℕ) → place < length words → Some (word-refusal WrongWord place) ≡ refusal nothing place (drop place words)
+more-left words place h = rw (drop-more words place 0 h) refl
+
+pub all-read : (words : List ℕ) (place : ℕ) → length words ≤ place → None ≡ refusal nothing place (drop place words)
+all-read words place h = rw (drop-all place words h) refl

@@ -123,6 +123,12 @@ part-of (Version ws) = version-part (now ws)
 part-of (File k p ws) = file-part k p (now ws)
 part-of End = end-part
 
+abbrev pub part-words : Part → List ℕ
+part-words (name-part ws) = ws
+part-words (version-part ws) = ws
+part-words (file-part k p ws) = ws
+part-words end-part = []
+
 abbrev pub shown : Result Step Refusal → Result Handed Refusal
 shown (Ok s) = Ok (record { part = part-of (s .item); place = s .place; behind = s .rest .place; stage = s .rest .stage })
 shown (Err refused) = Err refused
@@ -130,3 +136,8 @@ shown (Err refused) = Err refused
 abbrev pub told : {X : Type 0} → Result X Refusal → Option Refusal
 told (Ok x) = None
 told (Err refused) = Some refused
+
+-- the reader behind the item stays on the same words
+abbrev pub Same : List ℕ → Result Step Refusal → Type 0
+Same words (Ok s) = now (s .rest .words) ≡ words
+Same words (Err refused) = Unit {0}

@@ -9,7 +9,8 @@ ghost use mathlib.Core.Bool.{false};
 ghost use mathlib.Core.List.{[]};
 ghost use Rattle.base.specs.Refusals.{word-refusal};
 ghost use Rattle.package.specs.Words.{content-length, name-length};
-ghost use Rattle.package.specs.Items.{Apart, content-refusal, file-handed, item-at, judged, name-handed, shown, text-refusal, told};
+ghost use Rattle.package.specs.Checks.{nothing, refusal};
+ghost use Rattle.package.specs.Items.{Apart, content-refusal, file-handed, item-at, judged, name-handed, Same, shown, text-refusal, told};
 use crate::checks::head_fault;
 use crate::checks::item_fault;
 use crate::checks::name_lengths;
@@ -72,7 +73,8 @@ impl<'a> Items<'a> {
     // The name behind a head word.
     fn named(&self, head: Word, rest: &'a [u32], stage: Stage) -> Result<Step<'a>, Refusal>
         requires { ⌜ Apart (now (now self .words)) (now self .place) (head .0) (now rest) ⌝ }
-        ensures { λ r. ⌜ shown r ≡ judged (text-refusal (TextRule.Spelled TextKind.Name) (name-length (head .0)) false (now (self .entry) .place + 1) (now (rest .entry))) (name-handed stage (now (self .entry) .place) (head .0) (now (rest .entry))) ⌝ }
+        ensures item { λ r. ⌜ shown r ≡ judged (text-refusal (TextRule.Spelled TextKind.Name) (name-length (head .0)) false (now (self .entry) .place + 1) (now (rest .entry))) (name-handed stage (now (self .entry) .place) (head .0) (now (rest .entry))) ⌝ }
+        ensures same { λ r. ⌜ Same (now (now (self .entry) .words)) r ⌝ }
     {
         let place = self.place + 1;
         let behind = skip_text(
@@ -97,7 +99,8 @@ impl<'a> Items<'a> {
 
     // The head of a package and its name.
     fn package_name(&self) -> Result<Step<'a>, Refusal>
-        ensures { λ r. ⌜ shown r ≡ item-at Stage.Package (now (self .entry) .place) (drop (now (self .entry) .place) (now (now (self .entry) .words))) ⌝ }
+        ensures item { λ r. ⌜ shown r ≡ item-at Stage.Package (now (self .entry) .place) (drop (now (self .entry) .place) (now (now (self .entry) .words))) ⌝ }
+        ensures same { λ r. ⌜ Same (now (now (self .entry) .words)) r ⌝ }
     {
         let (head, rest) = self.apart()?;
         if let Some(reason) = head_fault(package_lengths(head), head) {
@@ -108,7 +111,8 @@ impl<'a> Items<'a> {
 
     // The version, whose length the head gave.
     fn version(&self, len: usize) -> Result<Step<'a>, Refusal>
-        ensures { λ r. ⌜ shown r ≡ item-at (Stage.Version len) (now (self .entry) .place) (drop (now (self .entry) .place) (now (now (self .entry) .words))) ⌝ }
+        ensures item { λ r. ⌜ shown r ≡ item-at (Stage.Version len) (now (self .entry) .place) (drop (now (self .entry) .place) (now (now (self .entry) .words))) ⌝ }
+        ensures same { λ r. ⌜ Same (now (now (self .entry) .words)) r ⌝ }
     {
         let behind = skip_text(
             self.words,
@@ -132,7 +136,8 @@ impl<'a> Items<'a> {
 
     // The head of a name alone, and the name.
     fn lone_name(&self) -> Result<Step<'a>, Refusal>
-        ensures { λ r. ⌜ shown r ≡ item-at Stage.NameAlone (now (self .entry) .place) (drop (now (self .entry) .place) (now (now (self .entry) .words))) ⌝ }
+        ensures item { λ r. ⌜ shown r ≡ item-at Stage.NameAlone (now (self .entry) .place) (drop (now (self .entry) .place) (now (now (self .entry) .words))) ⌝ }
+        ensures same { λ r. ⌜ Same (now (now (self .entry) .words)) r ⌝ }
     {
         let (head, rest) = self.apart()?;
         if let Some(reason) = head_fault(name_lengths(head), head) {
@@ -145,7 +150,8 @@ impl<'a> Items<'a> {
     fn filed(&self, word: Word, rest: &'a [u32], count: usize) -> Result<Step<'a>, Refusal>
         requires apart { ⌜ Apart (now (now self .words)) (now self .place) (word .0) (now rest) ⌝ }
         requires few { ⌜ count < 24 ⌝ }
-        ensures { λ r. ⌜ shown r ≡ judged (content-refusal (content-length (word .0)) (now (self .entry) .place + 1) (now (rest .entry))) (file-handed count (now (self .entry) .place) (word .0) (now (rest .entry))) ⌝ }
+        ensures item { λ r. ⌜ shown r ≡ judged (content-refusal (content-length (word .0)) (now (self .entry) .place + 1) (now (rest .entry))) (file-handed count (now (self .entry) .place) (word .0) (now (rest .entry))) ⌝ }
+        ensures same { λ r. ⌜ Same (now (now (self .entry) .words)) r ⌝ }
     {
         let n = word.content_length();
         let behind = self.skip_content(n)?;
@@ -188,7 +194,8 @@ impl<'a> Items<'a> {
 
     // A file, or the end.
     fn file_or_end(&self, count: usize, floor: usize) -> Result<Step<'a>, Refusal>
-        ensures { λ r. ⌜ shown r ≡ item-at (Stage.Files count floor) (now (self .entry) .place) (drop (now (self .entry) .place) (now (now (self .entry) .words))) ⌝ }
+        ensures item { λ r. ⌜ shown r ≡ item-at (Stage.Files count floor) (now (self .entry) .place) (drop (now (self .entry) .place) (now (now (self .entry) .words))) ⌝ }
+        ensures same { λ r. ⌜ Same (now (now (self .entry) .words)) r ⌝ }
     {
         let (word, rest) = self.apart()?;
         if let Some(reason) = item_fault(count, floor, self.place, word) {
@@ -211,15 +218,27 @@ impl<'a> Items<'a> {
 
     // Behind the end stands nothing.
     fn past_end(&self) -> Result<Step<'a>, Refusal>
-        ensures { λ r. ⌜ shown r ≡ item-at Stage.Done (now (self .entry) .place) (drop (now (self .entry) .place) (now (now (self .entry) .words))) ⌝ }
+        ensures item { λ r. ⌜ shown r ≡ item-at Stage.Done (now (self .entry) .place) (drop (now (self .entry) .place) (now (now (self .entry) .words))) ⌝ }
+        ensures same { λ r. ⌜ Same (now (now (self .entry) .words)) r ⌝ }
     {
         let (_, _) = self.apart()?;
         Err(Refusal::in_words(Reason::WrongWord, self.place))
     }
 
+    // Whether the input ends here, as it must once nothing more is due.
+    pub(crate) fn nothing_left(&self) -> Result<(), Refusal>
+        ensures { λ r. ⌜ told r ≡ refusal nothing (now (self .entry) .place) (drop (now (self .entry) .place) (now (now (self .entry) .words))) ⌝ }
+    {
+        if self.place < self.words.len() {
+            return Err(Refusal::in_words(Reason::WrongWord, self.place));
+        }
+        Ok(())
+    }
+
     // The next item and the reader behind it, or the first fault in the item.
     pub fn next(&self) -> Result<Step<'a>, Refusal>
         ensures item { λ r. ⌜ shown r ≡ item-at (now (self .entry) .stage) (now (self .entry) .place) (drop (now (self .entry) .place) (now (now (self .entry) .words))) ⌝ }
+        ensures same { λ r. ⌜ Same (now (now (self .entry) .words)) r ⌝ }
     {
         match self.stage {
             Stage::Package => self.package_name(),
