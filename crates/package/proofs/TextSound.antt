@@ -77,7 +77,7 @@ content-run n after place ws = go (eqb n 0) refl
         text-run ws Free (3 * n) false after place ∙ ap (λ (m : ℕ). or-run (text-refusal Free (3 * n) false place ws) (refusal after (place + m) (drop m ws))) f
 
 -- the parts of a step without a fault
-text-none : (rule : TextRule) (left : ℕ) (begun : Bool) (w : ℕ) → text-fault rule left begun w ≡ None
+pub text-none : (rule : TextRule) (left : ℕ) (begun : Bool) (w : ℕ) → text-fault rule left begun w ≡ None
     → (is-text w ≡ true) × (right-count rule left (byte-count w) ≡ true) × (right-bytes rule begun (bytes w) ≡ true)
 text-none rule left begun w h =
     let p = must-none (is-text w) WrongWord _ h in
@@ -85,7 +85,7 @@ text-none rule left begun w h =
     let r = and-parts (right-count rule left (byte-count w)) (right-bytes rule begun (bytes w)) (q .0) in
     (p .0, r .0, r .1)
 
-right-join : (kind : TextKind) (begun : Bool) (xs ys : List ℕ) → right-bytes (Spelled kind) begun xs ≡ true → right-bytes (Spelled kind) true ys ≡ true → right-bytes (Spelled kind) begun (xs ++ ys) ≡ true
+pub right-join : (kind : TextKind) (begun : Bool) (xs ys : List ℕ) → right-bytes (Spelled kind) begun xs ≡ true → right-bytes (Spelled kind) true ys ≡ true → right-bytes (Spelled kind) begun (xs ++ ys) ≡ true
 right-join kind false [] ys h k = absurd (both-ways false refl h)
 right-join kind false (x ∷ xs) ys h k =
     let p = and-parts (may-begin kind x) (all (may-follow kind) xs) h in

@@ -1,0 +1,7 @@
+pub mod Accepted
+pub mod Decodes
+pub mod Encodes
+pub mod Exact
+pub mod Made
+pub mod Ran
+pub mod Whole
