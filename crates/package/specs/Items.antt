@@ -21,6 +21,7 @@ use Rattle.package.specs.declared.items.Item.{Item}
 use Rattle.package.specs.declared.items.Item.the-variants.{Name, Version, File, End}
 use Rattle.package.specs.declared.items.Stage.{Stage}
 use Rattle.package.specs.declared.items.Stage.the-variants.{Package, NameAlone, Version as Versions, Files, Done}
+use Rattle.package.specs.declared.items.Items.{Items}
 use Rattle.package.specs.declared.items.Step.{Step}
 use Rattle.package.specs.Words.{name-length, version-length, content-length, file-kind, path, is-end}
 use Rattle.package.specs.Checks.{Due, package-head, name-head, text, item, nothing, fault, text-fault, or-else}
@@ -136,6 +137,14 @@ shown (Err refused) = Err refused
 abbrev pub told : {X : Type 0} → Result X Refusal → Option Refusal
 told (Ok x) = None
 told (Err refused) = Some refused
+
+-- the words from the reader's place on
+abbrev pub left-from : Items → List ℕ
+left-from items = drop (items .place) (now (items .words))
+
+-- the answer of a reader at whose place this is due
+abbrev pub Hands : Items → Stage → Result Step Refusal → Type 0
+Hands items stage r = shown r ≡ item-at stage (items .place) (left-from items)
 
 -- the reader behind the item stays on the same words
 abbrev pub Same : List ℕ → Result Step Refusal → Type 0

@@ -10,7 +10,7 @@ ghost use mathlib.Core.List.{[]};
 ghost use Rattle.base.specs.Refusals.{word-refusal};
 ghost use Rattle.package.specs.Words.{content-length, name-length};
 ghost use Rattle.package.specs.Checks.{nothing, refusal};
-ghost use Rattle.package.specs.Items.{Apart, content-refusal, file-handed, item-at, judged, name-handed, Same, shown, text-refusal, told};
+ghost use Rattle.package.specs.Items.{Apart, content-refusal, file-handed, Hands, judged, left-from, name-handed, Same, shown, text-refusal, told};
 use crate::checks::head_fault;
 use crate::checks::item_fault;
 use crate::checks::name_lengths;
@@ -52,7 +52,7 @@ impl<'a> Items<'a> {
 
     // The words from the reader's place on.
     fn remaining(&self) -> &'a [u32]
-        ensures { λ r. ⌜ now r ≡ drop (now (self .entry) .place) (now (now (self .entry) .words)) ⌝ }
+        ensures { λ r. ⌜ now r ≡ left-from (now (self .entry)) ⌝ }
     {
         if self.place >= self.words.len() {
             return &[];
@@ -62,7 +62,7 @@ impl<'a> Items<'a> {
 
     // The first word from here on, and the rest.
     fn apart(&self) -> Result<(Word, &'a [u32]), Refusal>
-        ensures { λ r. ⌜ Cases r (λ p. Apart (now (now (self .entry) .words)) (now (self .entry) .place) (p .0 .0) (now (p .1))) (λ e. (drop (now (self .entry) .place) (now (now (self .entry) .words)) ≡ []) × (e ≡ word-refusal Reason.EndsEarly (now (self .entry) .place))) ⌝ }
+        ensures { λ r. ⌜ Cases r (λ p. Apart (now (now (self .entry) .words)) (now (self .entry) .place) (p .0 .0) (now (p .1))) (λ e. (left-from (now (self .entry)) ≡ []) × (e ≡ word-refusal Reason.EndsEarly (now (self .entry) .place))) ⌝ }
     {
         let [first, rest @ ..] = self.remaining() else {
             return Err(Refusal::in_words(Reason::EndsEarly, self.place));
@@ -99,7 +99,7 @@ impl<'a> Items<'a> {
 
     // The head of a package and its name.
     fn package_name(&self) -> Result<Step<'a>, Refusal>
-        ensures item { λ r. ⌜ shown r ≡ item-at Stage.Package (now (self .entry) .place) (drop (now (self .entry) .place) (now (now (self .entry) .words))) ⌝ }
+        ensures item { λ r. ⌜ Hands (now (self .entry)) Stage.Package r ⌝ }
         ensures same { λ r. ⌜ Same (now (now (self .entry) .words)) r ⌝ }
     {
         let (head, rest) = self.apart()?;
@@ -109,9 +109,21 @@ impl<'a> Items<'a> {
         self.named(head, rest, Stage::Version(head.version_length()))
     }
 
+    // The head of a name alone, and the name.
+    fn lone_name(&self) -> Result<Step<'a>, Refusal>
+        ensures item { λ r. ⌜ Hands (now (self .entry)) Stage.NameAlone r ⌝ }
+        ensures same { λ r. ⌜ Same (now (now (self .entry) .words)) r ⌝ }
+    {
+        let (head, rest) = self.apart()?;
+        if let Some(reason) = head_fault(name_lengths(head), head) {
+            return Err(Refusal::in_words(reason, self.place));
+        }
+        self.named(head, rest, Stage::Done)
+    }
+
     // The version, whose length the head gave.
     fn version(&self, len: usize) -> Result<Step<'a>, Refusal>
-        ensures item { λ r. ⌜ shown r ≡ item-at (Stage.Version len) (now (self .entry) .place) (drop (now (self .entry) .place) (now (now (self .entry) .words))) ⌝ }
+        ensures item { λ r. ⌜ Hands (now (self .entry)) (Stage.Version len) r ⌝ }
         ensures same { λ r. ⌜ Same (now (now (self .entry) .words)) r ⌝ }
     {
         let behind = skip_text(
@@ -132,18 +144,6 @@ impl<'a> Items<'a> {
             place: self.place,
             rest,
         })
-    }
-
-    // The head of a name alone, and the name.
-    fn lone_name(&self) -> Result<Step<'a>, Refusal>
-        ensures item { λ r. ⌜ shown r ≡ item-at Stage.NameAlone (now (self .entry) .place) (drop (now (self .entry) .place) (now (now (self .entry) .words))) ⌝ }
-        ensures same { λ r. ⌜ Same (now (now (self .entry) .words)) r ⌝ }
-    {
-        let (head, rest) = self.apart()?;
-        if let Some(reason) = head_fault(name_lengths(head), head) {
-            return Err(Refusal::in_words(reason, self.place));
-        }
-        self.named(head, rest, Stage::Done)
     }
 
     // The content behind the first word of a file.
@@ -194,7 +194,7 @@ impl<'a> Items<'a> {
 
     // A file, or the end.
     fn file_or_end(&self, count: usize, floor: usize) -> Result<Step<'a>, Refusal>
-        ensures item { λ r. ⌜ shown r ≡ item-at (Stage.Files count floor) (now (self .entry) .place) (drop (now (self .entry) .place) (now (now (self .entry) .words))) ⌝ }
+        ensures item { λ r. ⌜ Hands (now (self .entry)) (Stage.Files count floor) r ⌝ }
         ensures same { λ r. ⌜ Same (now (now (self .entry) .words)) r ⌝ }
     {
         let (word, rest) = self.apart()?;
@@ -218,7 +218,7 @@ impl<'a> Items<'a> {
 
     // Behind the end stands nothing.
     fn past_end(&self) -> Result<Step<'a>, Refusal>
-        ensures item { λ r. ⌜ shown r ≡ item-at Stage.Done (now (self .entry) .place) (drop (now (self .entry) .place) (now (now (self .entry) .words))) ⌝ }
+        ensures item { λ r. ⌜ Hands (now (self .entry)) Stage.Done r ⌝ }
         ensures same { λ r. ⌜ Same (now (now (self .entry) .words)) r ⌝ }
     {
         let (_, _) = self.apart()?;
@@ -227,7 +227,7 @@ impl<'a> Items<'a> {
 
     // Whether the input ends here, as it must once nothing more is due.
     pub(crate) fn nothing_left(&self) -> Result<(), Refusal>
-        ensures { λ r. ⌜ told r ≡ refusal nothing (now (self .entry) .place) (drop (now (self .entry) .place) (now (now (self .entry) .words))) ⌝ }
+        ensures { λ r. ⌜ told r ≡ refusal nothing (now (self .entry) .place) (left-from (now (self .entry))) ⌝ }
     {
         if self.place < self.words.len() {
             return Err(Refusal::in_words(Reason::WrongWord, self.place));
@@ -237,7 +237,7 @@ impl<'a> Items<'a> {
 
     // The next item and the reader behind it, or the first fault in the item.
     pub fn next(&self) -> Result<Step<'a>, Refusal>
-        ensures item { λ r. ⌜ shown r ≡ item-at (now (self .entry) .stage) (now (self .entry) .place) (drop (now (self .entry) .place) (now (now (self .entry) .words))) ⌝ }
+        ensures item { λ r. ⌜ Hands (now (self .entry)) (now (self .entry) .stage) r ⌝ }
         ensures same { λ r. ⌜ Same (now (now (self .entry) .words)) r ⌝ }
     {
         match self.stage {

@@ -1,9 +1,8 @@
 ghost use mathlib.Core.Path.{_≡_};
-ghost use lib.ListN.{drop};
 ghost use Rattle.std.specs.Results.{Cases};
 ghost use Rattle.std.specs.declared.option.Option.the-variants.{Some};
 ghost use Rattle.package.specs.Checks.{refusal};
-ghost use Rattle.package.specs.Items.{due-at, part-of, part-words, told};
+ghost use Rattle.package.specs.Items.{due-at, left-from, part-of, part-words, told};
 ghost use Rattle.package.specs.Readings.{Alone, Naming, Parted, Reading, package-refusal, name-refusal};
 use crate::gather::name_of;
 use crate::gather::version_of;
@@ -18,7 +17,7 @@ use base::Refusal;
 impl Items<'_> {
     // The first fault from here on: of the items up to the last one due, and of what stands behind it.
     fn finish(&self) -> Result<(), Refusal>
-        ensures { λ r. ⌜ told r ≡ refusal (due-at (now (self .entry) .stage)) (now (self .entry) .place) (drop (now (self .entry) .place) (now (now (self .entry) .words))) ⌝ }
+        ensures { λ r. ⌜ told r ≡ refusal (due-at (now (self .entry) .stage)) (now (self .entry) .place) (left-from (now (self .entry))) ⌝ }
     {
         if let Stage::Done = self.stage {
             return self.nothing_left();
