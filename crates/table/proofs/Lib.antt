@@ -1,0 +1,6 @@
+pub mod Keys
+pub mod Ranks
+pub mod Rises
+pub mod Looks
+pub mod Moves
+pub mod Changes

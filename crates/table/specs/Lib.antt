@@ -1,0 +1,4 @@
+pub mod Order
+pub mod Bytes
+pub mod Rows
+pub mod Answers
