@@ -1,0 +1,6 @@
+use Rattle.base.proofs.Rows.{same-name}
+use Rattle.base.proofs.names.NamePartialEq.eq.Needs as need
+
+pub returns : need.returns
+returns c =
+    (λ t. same-name (c .args .self .now) (c .args .other .now) (c .eq .ensures .0 t), λ e. c .eq .ensures .1 (λ i. e i .row))

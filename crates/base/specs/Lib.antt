@@ -1,0 +1,3 @@
+pub mod Named
+pub mod Refusals
+pub mod Texts
