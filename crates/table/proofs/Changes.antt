@@ -14,7 +14,7 @@ use Rattle.table.specs.declared.table.Spot.{Spot}
 use Rattle.table.specs.Order.{Total, meets}
 use Rattle.table.specs.Rows.{rising, Stands, Missing, rank, lookup}
 use Rattle.table.specs.Answers.{live, room, Sorted, Spots, Entered, Replaced, Removed, Removes, Takes}
-use Rattle.table.proofs.Keys.{meets-meets}
+use Rattle.table.proofs.Meets.{meets-meets}
 use Rattle.table.proofs.Ranks.{rank-within, stands-within}
 use Rattle.table.proofs.Rises.{rising-inserted, rising-removed, rising-set}
 use Rattle.table.proofs.Looks.{look-stands, look-like, only-inserted, only-removed, only-set}

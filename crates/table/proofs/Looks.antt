@@ -10,7 +10,7 @@ use Rattle.std.specs.shelf.Lists.{inserted, removed}
 use Rattle.std.proofs.shelf.Tests.{both-ways, and-parts}
 use Rattle.table.specs.Order.{Total, meets}
 use Rattle.table.specs.Rows.{under, rising, Stands, Missing, lookup, Only}
-use Rattle.table.proofs.Keys.{meets-sym, meets-parts, meets-meets, below-apart}
+use Rattle.table.proofs.Meets.{meets-sym, meets-parts, meets-meets, below-apart}
 use Rattle.table.proofs.Ranks.{under-stands}
 
 -- a test before another, where both are never met

@@ -8,7 +8,7 @@ use Rattle.std.specs.shelf.Lists.{inserted, removed}
 use Rattle.std.proofs.shelf.Tests.{and-parts, and-from, cond-both}
 use Rattle.table.specs.Order.{Total, meets}
 use Rattle.table.specs.Rows.{under, rising, Stands, Missing, rank}
-use Rattle.table.proofs.Keys.{meets-sym, meets-below, meets-above, other-below}
+use Rattle.table.proofs.Meets.{meets-sym, meets-below, meets-above, other-below}
 
 module _ {E K : Type 0} (below : K → K → Bool) (keyed : E → K) where
   under-parts : (k : K) (x : E) (xs : List E) → under below keyed k (x ∷ xs) ≡ true → (below k (keyed x) ≡ true) × (under below keyed k xs ≡ true)

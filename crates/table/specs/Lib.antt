@@ -1,4 +1,3 @@
 pub mod Order
-pub mod Bytes
 pub mod Rows
 pub mod Answers

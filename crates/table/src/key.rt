@@ -1,9 +1,9 @@
 ghost use mathlib.Core.Bool.{Bool};
 ghost use mathlib.Core.Path.{_≡_};
-ghost use lib.Dec.{ltb};
 ghost use Rattle.table.specs.Order.{Total};
 
-// A key. Its order is total, and two keys neither of which is below the other are the same key.
+// A key. Its order is total: two keys neither of which is below the other are the same key.
+// What the same key is says each kind of key: the same value, or whatever compares alike.
 pub trait Key: Copy {
     ghost below: { Self → Self → Bool };
 
@@ -15,7 +15,7 @@ pub trait Key: Copy {
         ensures { λ r. ⌜ r ≡ below (now (self .entry)) (now (other .entry)) ⌝ };
 }
 
-// A row of a table, with its key.
+// A row of a table. It has a key.
 pub trait Element: Copy {
     type K: Key;
 
@@ -23,15 +23,4 @@ pub trait Element: Copy {
 
     fn key(&self) -> Self::K
         ensures { λ r. ⌜ r ≡ keyed (now (self .entry)) ⌝ };
-}
-
-// Paths are keys by their numbers.
-pub impl Key for u8 as PathKey {
-    ghost below = { ltb };
-
-    ghost same = { λ a b. a ≡ b };
-
-    fn below(&self, other: &u8) -> bool {
-        *self < *other
-    }
 }

@@ -1,3 +1,14 @@
+// Ordered tables over lent memory, for every kind of row with an ordered key.
 mod key;
-mod name;
+mod keys;
 mod table;
+
+pub use key::Element;
+pub use key::Key;
+pub use keys::NameKey;
+pub use keys::PathKey;
+pub use table::Refused;
+pub use table::RefusedDebug;
+pub use table::RefusedEq;
+pub use table::RefusedPartialEq;
+pub use table::Table;

@@ -5,7 +5,7 @@ use Prim.Native.Nat.{_<_}
 use lib.ListN.{length, getD}
 use Rattle.std.specs.shelf.Lists.{removed}
 use Rattle.table.specs.Answers.{live}
-use Rattle.table.proofs.Keys.{self-meets}
+use Rattle.table.proofs.Meets.{self-meets}
 use Rattle.table.proofs.Ranks.{stands-from}
 use Rattle.table.proofs.Changes.{removed-key}
 use Rattle.table.proofs.table.Table.remove_at.Needs as need
