@@ -4,4 +4,4 @@ pub mod Rises
 pub mod Looks
 pub mod Moves
 pub mod Changes
-pub mod Texts
+pub mod Orders

@@ -24,7 +24,7 @@ module _ {E K : Type 0} {below : K → K → Bool} {same : K → K → Type 0} (
   look-missing k [] m = refl
   look-missing k (x ∷ xs) m =
       (elim (meets below (keyed x) k) as (λ b. meets below (keyed x) k ≡ b → cond b (Some x) (lookup below keyed k xs) ≡ None)
-        [ true ↦ λ p. absurd (m 0 p) | false ↦ λ p. look-missing k xs (λ i s. m (suc i) s) ]) refl
+      [ true ↦ λ p. absurd (m 0 p) | false ↦ λ p. look-missing k xs (λ i s. m (suc i) s) ]) refl
 
   -- the first of rising rows is the only one of its key
   first-only : (k : K) (x : E) (xs : List E) (i : ℕ) → rising below keyed (x ∷ xs) ≡ true → Stands below keyed k xs i → meets below (keyed x) k ≡ false
@@ -61,20 +61,21 @@ module _ {E K : Type 0} {below : K → K → Bool} {same : K → K → Type 0} (
   only-set e (x ∷ xs) zero r s q =
       rw (meets-meets total (keyed x) (keyed e) q s)
       (elim (meets below (keyed e) q) as (λ b. cond b (Some e) (lookup below keyed q xs) ≡ cond b (Some e) (cond b (Some x) (lookup below keyed q xs)))
-        [ true ↦ refl | false ↦ refl ])
+      [ true ↦ refl | false ↦ refl ])
   only-set e (x ∷ xs) (suc i) r s q =
       ap (cond (meets below (keyed x) q) (Some x)) (only-set e xs i (rest-rising x xs r) s q)
       ∙ swap (meets below (keyed x) q) (meets below (keyed e) q) (Some x) (Some e) (lookup below keyed q xs)
-          (λ p t. both-ways (meets below (keyed x) (keyed e)) (first-only (keyed e) x xs i r s) (both-meet (keyed x) (keyed e) q p t))
+      (λ p t. both-ways (meets below (keyed x) (keyed e)) (first-only (keyed e) x xs i r s) (both-meet (keyed x) (keyed e) q p t))
 
   pub only-removed : (k : K) (xs : List E) (i : ℕ) → rising below keyed xs ≡ true → Stands below keyed k xs i → Only below keyed k None xs (removed xs i)
   only-removed k [] i r s q = absurd s
   only-removed k (x ∷ xs) zero r s q =
       rw (meets-meets total (keyed x) k q s)
-      ((elim (meets below k q) as (λ b. meets below k q ≡ b → lookup below keyed q xs ≡ cond b None (cond b (Some x) (lookup below keyed q xs)))
-        [ true ↦ λ p. look-missing q xs (λ j t. both-ways (meets below (keyed x) q) (first-only q x xs j r t) (meets-meets total (keyed x) k q s ∙ p))
-        | false ↦ λ p. refl ]) refl)
+      ((elim (meets below k q) as (λ b. meets below k q ≡ b → lookup below keyed q xs ≡ cond b None (cond b (Some x) (lookup below keyed q xs))) [
+        | true ↦ λ p. look-missing q xs (λ j t. both-ways (meets below (keyed x) q) (first-only q x xs j r t) (meets-meets total (keyed x) k q s ∙ p))
+        | false ↦ λ p. refl
+      ]) refl)
   only-removed k (x ∷ xs) (suc i) r s q =
       ap (cond (meets below (keyed x) q) (Some x)) (only-removed k xs i (rest-rising x xs r) s q)
       ∙ swap (meets below (keyed x) q) (meets below k q) (Some x) None (lookup below keyed q xs)
-          (λ p t. both-ways (meets below (keyed x) k) (first-only k x xs i r s) (both-meet (keyed x) k q p t))
+      (λ p t. both-ways (meets below (keyed x) k) (first-only k x xs i r s) (both-meet (keyed x) k q p t))

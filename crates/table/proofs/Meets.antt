@@ -43,8 +43,8 @@ module _ {K : Type 0} {below : K → K → Bool} {same : K → K → Type 0} (to
   carried a b c h p =
       ⊎-elim (λ q. q)
       (λ q. ⊎-elim (λ r. absurd (both-ways (below b a) (meets-parts a b h .1) (total .trans b c a r p)))
-        (λ r. absurd (both-ways (below b a) (meets-parts a b h .1) (total .like b c a (total .one b c r q) ∙ p)))
-        (cases-bool (below b c)))
+      (λ r. absurd (both-ways (below b a) (meets-parts a b h .1) (total .like b c a (total .one b c r q) ∙ p)))
+      (cases-bool (below b c)))
       (cases-bool (below c b))
 
   pub meets-above : (a b c : K) → meets below a b ≡ true → below c a ≡ below c b

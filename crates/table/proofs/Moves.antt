@@ -23,10 +23,10 @@ pub opened : {X : Type 0} (rows : List X) (i n : ℕ) (e : X) (q : List X) → i
 opened rows i n e q h lt is =
     let lt' = length-take-le n rows (omega arith) in
     let p : between i (n + 1) (set rows n e) ≡ drop i (take n rows) ++ e ∷ []
-        = between-is (set rows n e) i (n + 1) ∙ ap (drop i) (rw add-one (take-suc-set rows n e lt)) ∙ drop-append-le i (take n rows) (e ∷ []) (omega arith) in
+    = between-is (set rows n e) i (n + 1) ∙ ap (drop i) (rw add-one (take-suc-set rows n e lt)) ∙ drop-append-le i (take n rows) (e ∷ []) (omega arith) in
     let l : length (drop i (take n rows) ++ e ∷ []) - 1 ≡ length (drop i (take n rows)) = omega (arith, length-append (drop i (take n rows)) (e ∷ [])) in
     let q' : q ≡ e ∷ drop i (take n rows)
-        = subst (λ (z : List _). q ≡ drop (length z - 1) z ++ take (length z - 1) z) p is ∙ rw (l, drop-at (drop i (take n rows)) (e ∷ []) _ refl, take-at (drop i (take n rows)) (e ∷ []) _ refl) in
+    = subst (λ (z : List _). q ≡ drop (length z - 1) z ++ take (length z - 1) z) p is ∙ rw (l, drop-at (drop i (take n rows)) (e ∷ []) _ refl, take-at (drop i (take n rows)) (e ∷ []) _ refl) in
     let lq : n + 1 ≡ i + length q = omega (arith, ap length q', length-drop i (take n rows)) in
     take-putMid i ((n + 1) - i) (set rows n e) q (n + 1) lq (omega (arith, length-set rows n e))
     ∙ ap (λ (z : List _). z ++ q) (take-set-le i rows n e h ∙ sym (take-take i n rows h)) ∙ ap (λ (z : List _). take i (take n rows) ++ z) q'

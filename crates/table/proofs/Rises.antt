@@ -57,9 +57,9 @@ module _ {E K : Type 0} {below : K → K → Bool} {same : K → K → Type 0} (
       let p = rising-parts below keyed x xs r in
       cond-both (below (keyed x) (keyed e)) (suc (rank below keyed (keyed e) xs)) 0 (λ i. rising below keyed (inserted (x ∷ xs) i e) ≡ true)
       (λ l. rising-from below keyed x (inserted xs (rank below keyed (keyed e) xs) e) (under-inserted below keyed (keyed x) xs (rank below keyed (keyed e) xs) e l (p .0))
-        (rising-inserted e xs (p .1) (λ i s. m (suc i) s)))
+      (rising-inserted e xs (p .1) (λ i s. m (suc i) s)))
       (λ l. let b = other-below total (keyed x) (keyed e) l (m 0) in
-        rising-from below keyed e (x ∷ xs) (under-from below keyed (keyed e) x xs b (under-trans (keyed e) (keyed x) xs b (p .0))) r)
+      rising-from below keyed e (x ∷ xs) (under-from below keyed (keyed e) x xs b (under-trans (keyed e) (keyed x) xs b (p .0))) r)
 
   under-like : (a b : K) (xs : List E) → meets below a b ≡ true → under below keyed b xs ≡ true → under below keyed a xs ≡ true
   under-like a b [] m u = refl

@@ -1,6 +1,6 @@
 ghost use mathlib.Core.Path.{_≡_};
 ghost use lib.Dec.{ltb};
-ghost use Rattle.base.specs.Texts.{before};
+ghost use Rattle.table.specs.Order.{by-bytes};
 use crate::key::Key;
 use base::ShortText;
 
@@ -17,7 +17,7 @@ pub impl Key for u8 as PathKey {
 
 // Names are in the order of their bytes, a prefix first.
 pub impl Key for ShortText as NameKey {
-    ghost below = { λ a b. before (a .bytes) (b .bytes) };
+    ghost below = { by-bytes };
 
     ghost same = { λ a b. a ≡ b };
 

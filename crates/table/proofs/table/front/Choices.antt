@@ -10,7 +10,7 @@ Inv-loop-low g l =
     (l .low ≤ l .high)
     × (l .high ≤ length (l .rows))
     × (rising (g .K·Key .below) (g .E·Element .keyed) (l .rows) ≡ true
-       → (l .low ≤ rank (g .K·Key .below) (g .E·Element .keyed) (l .key) (l .rows)) × (rank (g .K·Key .below) (g .E·Element .keyed) (l .key) (l .rows) ≤ l .high))
+    → (l .low ≤ rank (g .K·Key .below) (g .E·Element .keyed) (l .key) (l .rows)) × (rank (g .K·Key .below) (g .E·Element .keyed) (l .key) (l .rows) ≤ l .high))
 
 abbrev pub μ-loop-low : given.MeasureT-loop-low
 μ-loop-low g l = l .high - l .low

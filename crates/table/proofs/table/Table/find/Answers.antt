@@ -11,4 +11,4 @@ returns-in-Break-i g c sorted =
 pub returns : need.returns
 returns g c sorted =
     sym (look-stands (g .K·Key·met .total) (g .E·Element .keyed) (c .args .key) (live (c .args .self .now)) (c .in-Continue-i .i) (c .index-live-i .result) (sorted .1)
-      (rw (← c .rows-live .ensures) (c .index-live-i .is)) (c .in-Continue-i .ensures tt .finds sorted))
+    (rw (← c .rows-live .ensures) (c .index-live-i .is)) (c .in-Continue-i .ensures tt .finds sorted))

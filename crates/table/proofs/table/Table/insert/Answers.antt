@@ -10,9 +10,9 @@ use Rattle.table.proofs.table.Table.insert.Needs as need
 
 pub returns-else-n-self : need.returns-else-n-self
 returns-else-n-self g c = record {
-    room = search needs;
-    inserts = λ sorted.
+  room = search needs;
+  inserts = λ sorted.
       let gap = spots-at (g .K·Key .below) (g .E·Element .keyed) (c .key .result) _ (c .rows .result .now) (live (c .args .self .now)) (Gap (c .in-Gap .i)) (c .key .ensures) (c .rows .ensures) (c .in-Gap .ensures tt) .1 (sorted .1) in
       entered (g .K·Key·met .total) (g .E·Element .keyed) (c .args .row) (c .args .self .now) _ (c .in-Gap .i) sorted (gap .0) (gap .1) (omega (arith, c .used-n .ensures .count)) (search needs)
-        (c .open-at .ensures ∙ ap (λ xs. inserted xs (c .in-Gap .i) (c .args .row)) (c .used-n .ensures .rows))
-  }
+      (c .open-at .ensures ∙ ap (λ xs. inserted xs (c .in-Gap .i) (c .args .row)) (c .used-n .ensures .rows));
+}

@@ -21,7 +21,7 @@ returns g c =
     record {
       room = search needs;
       takes = λ sorted.
-        removed-key total keyed (keyed old) t _ (c .args .i) old sorted
+          removed-key total keyed (keyed old) t _ (c .args .i) old sorted
           (stands-from (g .K·Key .below) keyed (keyed old) (live t) (c .args .i) old h at (self-meets total (keyed old)))
-          at (search needs) (c .close-at .ensures ∙ ap (λ xs. removed xs (c .args .i)) (c .used-n .ensures .rows))
+          at (search needs) (c .close-at .ensures ∙ ap (λ xs. removed xs (c .args .i)) (c .used-n .ensures .rows));
     }

@@ -21,8 +21,10 @@ returns g c =
     let at : old ≡ getD (live t) i old = c .index-live-i .is ∙ ap (λ xs. getD xs i old) (c .rows-live .ensures) in
     record {
       room = search needs;
-      replaces = λ sorted.
-        (i, replaced (g .K·Key·met .total) keyed (c .args .row) t _ i old sorted
-          (subst (λ k. Stands below keyed k (live t) i) (c .key .ensures) (c .in-Continue-i .ensures tt .finds sorted))
-          at (search needs) (ap (take (t .len)) (c .write-at .ensures) ∙ take-of-set (t .len) (t .rows .now) i (c .args .row)))
+      replaces = λ sorted. (
+        i,
+        replaced (g .K·Key·met .total) keyed (c .args .row) t _ i old sorted
+            (subst (λ k. Stands below keyed k (live t) i) (c .key .ensures) (c .in-Continue-i .ensures tt .finds sorted))
+            at (search needs) (ap (take (t .len)) (c .write-at .ensures) ∙ take-of-set (t .len) (t .rows .now) i (c .args .row)),
+      );
     }
