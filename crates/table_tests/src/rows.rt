@@ -3,11 +3,11 @@ use table::Element;
 use table::NameKey;
 use table::PathKey;
 
-// A package.
+// A package: its name, and a mark to tell it by.
 #[derive(Clone, Copy)]
 pub struct Record {
     pub name: ShortText,
-    pub state: u8,
+    pub mark: u8,
 }
 
 pub impl Element for Record as RecordByName {
@@ -20,11 +20,11 @@ pub impl Element for Record as RecordByName {
     }
 }
 
-// A path, and the package that owns it.
-#[derive(Clone, Copy)]
+// A path that has an owner, and the owner's mark.
+#[derive(Clone, Copy, PartialEq, Eq, Debug)]
 pub struct Owner {
     pub path: u8,
-    pub owner: ShortText,
+    pub mark: u8,
 }
 
 pub impl Element for Owner as OwnerByPath {
