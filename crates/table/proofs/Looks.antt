@@ -38,15 +38,8 @@ module _ {E K : Type 0} {below : K → K → Bool} {same : K → K → Type 0} (
   look-stands k (y ∷ ys) zero x r e s = rw s (ap Some (sym e))
   look-stands k (y ∷ ys) (suc i) x r e s = rw (first-only k y ys i r s) (look-stands k ys i x (rest-rising y ys r) e s)
 
-  -- keys that meet find the same row
-  pub look-like : (a b : K) (xs : List E) → meets below a b ≡ true → lookup below keyed a xs ≡ lookup below keyed b xs
-  look-like a b [] m = refl
-  look-like a b (x ∷ xs) m =
-      let p : meets below (keyed x) a ≡ meets below (keyed x) b = meets-sym total (keyed x) a ∙ meets-meets total a b (keyed x) m ∙ meets-sym total b (keyed x) in
-      rw (p, look-like a b xs m)
-
   -- two keys that meet a third meet
-  pub both-meet : (a b q : K) → meets below a q ≡ true → meets below b q ≡ true → meets below a b ≡ true
+  both-meet : (a b q : K) → meets below a q ≡ true → meets below b q ≡ true → meets below a b ≡ true
   both-meet a b q p r = meets-meets total a q b p ∙ meets-sym total q b ∙ r
 
   pub only-inserted : (e : E) (xs : List E) (i : ℕ) → Missing below keyed (keyed e) xs → Only below keyed (keyed e) (Some e) xs (inserted xs i e)

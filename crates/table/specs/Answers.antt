@@ -34,20 +34,30 @@ module _ {E K : Type 0} (below : K → K → Bool) (keyed : E → K) where
   abbrev pub Sorted : Table E K → Type 0
   Sorted t = (t .len ≤ room t) × (rising below keyed (live t) ≡ true)
 
+  -- the row at the place i has the key k, and it is the row of k
+  pub record Found (k : K) (xs : List E) (i : ℕ) : Type 0 where
+    pub stands : Stands below keyed k xs i
+    pub row : (x : E) → x ≡ getD xs i x → lookup below keyed k xs ≡ Some x
+
+  -- no row has the key k
+  pub record Absent (k : K) (xs : List E) : Type 0 where
+    pub missing : Missing below keyed k xs
+    pub row : lookup below keyed k xs ≡ None
+
   -- where the key k is: at a row that has it, or in a gap of the order
   abbrev pub Spots : K → List E → Spot → Type 0
-  Spots k xs (Held i) = (i < length xs) × (rising below keyed xs ≡ true → Stands below keyed k xs i)
-  Spots k xs (Gap i) = (i ≤ length xs) × (rising below keyed xs ≡ true → (i ≡ rank below keyed k xs) × Missing below keyed k xs)
+  Spots k xs (Held i) = (i < length xs) × (rising below keyed xs ≡ true → Found k xs i)
+  Spots k xs (Gap i) = (i ≤ length xs) × (rising below keyed xs ≡ true → (i ≡ rank below keyed k xs) × Absent k xs)
 
   -- `search`: the place of the row with the key k, or none where no row has it
   abbrev pub Finds : K → Table E K → Option ℕ → Type 0
-  Finds k t (Some i) = Stands below keyed k (live t) i
-  Finds k t None = Missing below keyed k (live t)
+  Finds k t (Some i) = Found k (live t) i
+  Finds k t None = Absent k (live t)
 
   -- `insert`: the row e is in at the place i, which the order gives it, and nothing else is moved, added or lost.
   -- A search for its key now finds it, and any other key is found as before.
   pub record Entered (e : E) (t : Table E K) (i : ℕ) (t' : Table E K) : Type 0 where
-    pub new : Missing below keyed (keyed e) (live t)
+    pub new : Absent (keyed e) (live t)
     pub fits : length (live t) < room t
     pub rows : live t' ≡ inserted (live t) i e
     pub order : Sorted t'
@@ -57,13 +67,13 @@ module _ {E K : Type 0} (below : K → K → Bool) (keyed : E → K) where
   -- or a row has its key already, or no row is free, and the table is as it was
   abbrev pub Inserts : E → Table E K → Result ℕ Refused → Table E K → Type 0
   Inserts e t (Ok i) t' = Entered e t i t'
-  Inserts e t (Err (Present i)) t' = Stands below keyed (keyed e) (live t) i × Unchanged t t'
-  Inserts e t (Err Full) t' = Missing below keyed (keyed e) (live t) × (room t ≤ length (live t)) × Unchanged t t'
+  Inserts e t (Err (Present i)) t' = Found (keyed e) (live t) i × Unchanged t t'
+  Inserts e t (Err Full) t' = Absent (keyed e) (live t) × (room t ≤ length (live t)) × Unchanged t t'
 
   -- `replace`: the row e stands at the place i, in the place of the row that had its key
   pub record Replaced (e : E) (t : Table E K) (old : E) (t' : Table E K) (i : ℕ) : Type 0 where
-    pub stood : Stands below keyed (keyed e) (live t) i
-    pub was : lookup below keyed (keyed e) (live t) ≡ Some old
+    pub stood : Found (keyed e) (live t) i
+    pub was : old ≡ getD (live t) i old
     pub rows : live t' ≡ set (live t) i e
     pub order : Sorted t'
     pub count : length (live t') ≡ length (live t)
@@ -72,13 +82,13 @@ module _ {E K : Type 0} (below : K → K → Bool) (keyed : E → K) where
   -- or no row has its key, and the table is as it was
   abbrev pub Replaces : E → Table E K → Option E → Table E K → Type 0
   Replaces e t (Some old) t' = (i : ℕ) × Replaced e t old t' i
-  Replaces e t None t' = Missing below keyed (keyed e) (live t) × Unchanged t t'
+  Replaces e t None t' = Absent (keyed e) (live t) × Unchanged t t'
 
   -- `remove`: the row at the place i, which had the key k, is out, and nothing else is moved, added or lost.
   -- A search for the key now finds nothing, and any other key is found as before.
   pub record Removed (k : K) (t : Table E K) (old : E) (t' : Table E K) (i : ℕ) : Type 0 where
-    pub stood : Stands below keyed k (live t) i
-    pub was : lookup below keyed k (live t) ≡ Some old
+    pub stood : Found k (live t) i
+    pub was : old ≡ getD (live t) i old
     pub rows : live t' ≡ removed (live t) i
     pub order : Sorted t'
     pub count : length (live t') + 1 ≡ length (live t)
@@ -87,7 +97,7 @@ module _ {E K : Type 0} (below : K → K → Bool) (keyed : E → K) where
   -- or no row has the key, and the table is as it was
   abbrev pub Removes : K → Table E K → Option E → Table E K → Type 0
   Removes k t (Some old) t' = (i : ℕ) × Removed k t old t' i
-  Removes k t None t' = Missing below keyed k (live t) × Unchanged t t'
+  Removes k t None t' = Absent k (live t) × Unchanged t t'
 
   -- `remove_at`: the row at the place i is out, or there is none, and the table is as it was
   abbrev pub Takes : ℕ → Table E K → Option E → Table E K → Type 0

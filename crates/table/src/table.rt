@@ -6,7 +6,7 @@ ghost use lib.ListN.{length, take, set};
 ghost use Rattle.std.specs.Options.{Cases as BySome};
 ghost use Rattle.std.specs.shelf.Lists.{inserted, removed};
 ghost use Rattle.table.specs.Rows.{rising, rank, lookup};
-ghost use Rattle.table.specs.Answers.{live, room, Sorted, Spots, Finds, Inserts, Replaces, Removes, Takes};
+ghost use Rattle.table.specs.Answers.{live, room, Sorted, Found, Absent, Spots, Finds, Entered, Inserts, Replaced, Replaces, Removed, Removes, Takes};
 use crate::key::Element;
 use crate::key::Key;
 
@@ -51,19 +51,6 @@ fn front<E: Element>(rows: &[E], key: E::K) -> usize
         }
     }
     low
-}
-
-fn locate<E: Element>(rows: &[E], key: E::K) -> Spot
-    ensures { λ r. ⌜ Spots (K·Key .below) (E·Element .keyed) key (now (rows .entry)) r ⌝ }
-{
-    let i = front(rows, key);
-    if i >= rows.len() {
-        return Spot::Gap(i);
-    }
-    if key.below(&rows[i].key()) {
-        return Spot::Gap(i);
-    }
-    Spot::Held(i)
 }
 
 // Puts a row in at `i` among the first `n`.
@@ -127,18 +114,71 @@ impl<'a, E: Element> Table<'a, E> {
         self.rows.len() - self.used()
     }
 
-    // The place of the row with this key.
+    // Where a key is.
+    fn locate(&self, key: E::K) -> Spot
+        ensures { λ r. ⌜ Spots (K·Key .below) (E·Element .keyed) key (live (now (self .entry))) r ⌝ }
+    {
+        let live = self.rows();
+        let i = front(live, key);
+        if i >= live.len() {
+            return Spot::Gap(i);
+        }
+        if key.below(&live[i].key()) {
+            return Spot::Gap(i);
+        }
+        Spot::Held(i)
+    }
+
+    // Puts a row in at a place.
+    fn put_in(&mut self, i: usize, row: E)
+        requires { ⌜ (i ≤ length (live (now self))) × (length (live (now self)) < room (now self)) ⌝ }
+        ensures room { λ _. ⌜ room (now (self .exit)) ≡ room (now (self .entry)) ⌝ }
+        ensures entered { λ _. ⌜ (Sorted (K·Key .below) (E·Element .keyed) (now (self .entry)) → (k : E·K) → k ≡ E·Element .keyed row → i ≡ rank (K·Key .below) (E·Element .keyed) k (live (now (self .entry))) → Absent (K·Key .below) (E·Element .keyed) k (live (now (self .entry))) → Entered (K·Key .below) (E·Element .keyed) row (now (self .entry)) i (now (self .exit))) ⌝ }
+    {
+        let n = self.used();
+        open_at(self.rows, i, n, row);
+        self.len = n + 1;
+    }
+
+    // Puts a row over the one at a place, and answers that one.
+    fn put_over(&mut self, i: usize, row: E) -> E
+        requires { ⌜ i < length (live (now self)) ⌝ }
+        ensures room { λ _. ⌜ room (now (self .exit)) ≡ room (now (self .entry)) ⌝ }
+        ensures replaced { λ r. ⌜ (Sorted (K·Key .below) (E·Element .keyed) (now (self .entry)) → (k : E·K) → k ≡ E·Element .keyed row → Found (K·Key .below) (E·Element .keyed) k (live (now (self .entry))) i → Replaced (K·Key .below) (E·Element .keyed) row (now (self .entry)) r (now (self .exit)) i) ⌝ }
+    {
+        let live = self.rows();
+        let old = live[i];
+        write_at(self.rows, i, row);
+        old
+    }
+
+    // Takes the row at a place out, and answers it.
+    fn take_out(&mut self, i: usize) -> E
+        requires { ⌜ i < length (live (now self)) ⌝ }
+        ensures room { λ _. ⌜ room (now (self .exit)) ≡ room (now (self .entry)) ⌝ }
+        ensures removed { λ r. ⌜ (Sorted (K·Key .below) (E·Element .keyed) (now (self .entry)) → (k : E·K) → Found (K·Key .below) (E·Element .keyed) k (live (now (self .entry))) i → Removed (K·Key .below) (E·Element .keyed) k (now (self .entry)) r (now (self .exit)) i) ⌝ }
+        ensures found { λ r. ⌜ (Sorted (K·Key .below) (E·Element .keyed) (now (self .entry)) → Found (K·Key .below) (E·Element .keyed) (E·Element .keyed r) (live (now (self .entry))) i) ⌝ }
+    {
+        let n = self.used();
+        let live = self.rows();
+        let old = live[i];
+        close_at(self.rows, i, n);
+        self.len = n - 1;
+        old
+    }
+
+    // The place of the row with this key, or nothing where no row has it.
     pub fn search(&self, key: E::K) -> Option<usize>
         ensures within { λ r. ⌜ BySome r (Unit {0}) (λ i. i < length (live (now (self .entry)))) ⌝ }
         ensures finds { λ r. ⌜ (Sorted (K·Key .below) (E·Element .keyed) (now (self .entry)) → Finds (K·Key .below) (E·Element .keyed) key (now (self .entry)) r) ⌝ }
     {
-        match locate(self.rows(), key) {
+        match self.locate(key) {
             Spot::Held(i) => Some(i),
             Spot::Gap(_) => None,
         }
     }
 
-    // The row with this key.
+    // The row with this key, or nothing where no row has it.
     pub fn find(&self, key: E::K) -> Option<E>
         ensures { λ r. ⌜ (Sorted (K·Key .below) (E·Element .keyed) (now (self .entry)) → r ≡ lookup (K·Key .below) (E·Element .keyed) key (live (now (self .entry)))) ⌝ }
     {
@@ -147,59 +187,49 @@ impl<'a, E: Element> Table<'a, E> {
         Some(live[i])
     }
 
-    // Puts a row in at its place. A row whose key is there already is refused, and so is any other where no row is free.
+    // Puts a row in at its place, and answers that place. A row whose key is there already is refused, and so is any other where no row is free.
     pub fn insert(&mut self, row: E) -> Result<usize, Refused>
         ensures room { λ _. ⌜ room (now (self .exit)) ≡ room (now (self .entry)) ⌝ }
         ensures inserts { λ r. ⌜ (Sorted (K·Key .below) (E·Element .keyed) (now (self .entry)) → Inserts (K·Key .below) (E·Element .keyed) row (now (self .entry)) r (now (self .exit))) ⌝ }
     {
-        match locate(self.rows(), row.key()) {
+        match self.locate(row.key()) {
             Spot::Held(i) => Err(Refused::Present(i)),
             Spot::Gap(i) => {
-                let n = self.used();
-                if n >= self.rows.len() {
+                if self.free() == 0 {
                     return Err(Refused::Full);
                 }
-                open_at(self.rows, i, n, row);
-                self.len = n + 1;
+                self.put_in(i, row);
                 Ok(i)
             }
         }
     }
 
-    // Puts a row in the place of the one with its key, and answers that one.
+    // Puts a row in the place of the one with its key, and answers that one; nothing where no row has its key.
     pub fn replace(&mut self, row: E) -> Option<E>
         ensures room { λ _. ⌜ room (now (self .exit)) ≡ room (now (self .entry)) ⌝ }
         ensures replaces { λ r. ⌜ (Sorted (K·Key .below) (E·Element .keyed) (now (self .entry)) → Replaces (K·Key .below) (E·Element .keyed) row (now (self .entry)) r (now (self .exit))) ⌝ }
     {
         let i = self.search(row.key())?;
-        let live = self.rows();
-        let old = live[i];
-        write_at(self.rows, i, row);
-        Some(old)
+        Some(self.put_over(i, row))
     }
 
-    // Takes the row at a place out, and answers it.
+    // Takes the row at a place out, and answers it; nothing where the place is not in use.
     pub fn remove_at(&mut self, i: usize) -> Option<E>
         ensures room { λ _. ⌜ room (now (self .exit)) ≡ room (now (self .entry)) ⌝ }
         ensures takes { λ r. ⌜ (Sorted (K·Key .below) (E·Element .keyed) (now (self .entry)) → Takes (K·Key .below) (E·Element .keyed) i (now (self .entry)) r (now (self .exit))) ⌝ }
     {
-        let n = self.used();
-        if i >= n {
+        if i >= self.used() {
             return None;
         }
-        let live = self.rows();
-        let old = live[i];
-        close_at(self.rows, i, n);
-        self.len = n - 1;
-        Some(old)
+        Some(self.take_out(i))
     }
 
-    // Takes the row with this key out, and answers it.
+    // Takes the row with this key out, and answers it; nothing where no row has it.
     pub fn remove(&mut self, key: E::K) -> Option<E>
         ensures room { λ _. ⌜ room (now (self .exit)) ≡ room (now (self .entry)) ⌝ }
         ensures removes { λ r. ⌜ (Sorted (K·Key .below) (E·Element .keyed) (now (self .entry)) → Removes (K·Key .below) (E·Element .keyed) key (now (self .entry)) r (now (self .exit))) ⌝ }
     {
-        let i = self.search(key)?;
-        self.remove_at(i)
+        let place = self.search(key)?;
+        Some(self.take_out(place))
     }
 }
