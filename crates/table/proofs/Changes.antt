@@ -9,7 +9,8 @@ use Rattle.std.specs.shelf.Lists.{inserted, removed}
 use Rattle.std.proofs.shelf.Edits.{length-inserted, length-removed}
 use Rattle.table.specs.declared.table.Table.{Table}
 use Rattle.table.specs.Order.{Total}
-use Rattle.table.specs.Rows.{rising, Stands, Missing, rank, lookup}
+use Rattle.table.specs.Rows.{rising, Stands, Missing, lookup}
+use Rattle.table.specs.Spots.{rank}
 use Rattle.table.specs.Answers.{live, room, Sorted, Found, Absent, Entered, Replaced, Removed}
 use Rattle.table.proofs.Meets.{self-meets}
 use Rattle.table.proofs.Ranks.{rank-within, stands-within, stands-from}

@@ -9,7 +9,8 @@ use native.Mathlib.Omega.{arith}
 use lib.ListN.{length, getD}
 use Rattle.std.proofs.shelf.Tests.{both-ways, and-parts, cases-bool, cond-both}
 use Rattle.table.specs.Order.{Total, meets}
-use Rattle.table.specs.Rows.{under, rising, Stands, Missing, rank}
+use Rattle.table.specs.Rows.{under, rising, Stands, Missing}
+use Rattle.table.specs.Spots.{rank}
 use Rattle.table.proofs.Meets.{meets-parts, meets-from, meets-above}
 
 pub rank-within : {E K : Type 0} (below : K → K → Bool) (keyed : E → K) (k : K) (xs : List E) → rank below keyed k xs ≤ length xs

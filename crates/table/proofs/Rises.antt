@@ -7,7 +7,8 @@ use lib.ListN.{set}
 use Rattle.std.specs.shelf.Lists.{inserted, removed}
 use Rattle.std.proofs.shelf.Tests.{and-parts, and-from, cond-both}
 use Rattle.table.specs.Order.{Total, meets}
-use Rattle.table.specs.Rows.{under, rising, Stands, Missing, rank}
+use Rattle.table.specs.Rows.{under, rising, Stands, Missing}
+use Rattle.table.specs.Spots.{rank}
 use Rattle.table.proofs.Meets.{meets-sym, meets-below, meets-above, other-below}
 
 module _ {E K : Type 0} (below : K → K → Bool) (keyed : E → K) where

@@ -11,11 +11,9 @@ use Rattle.std.specs.declared.result.Result.{Result}
 use Rattle.std.specs.declared.result.Result.the-variants.{Ok, Err}
 use Rattle.std.specs.shelf.Lists.{inserted, removed}
 use Rattle.table.specs.declared.table.Table.{Table}
-use Rattle.table.specs.declared.table.Spot.{Spot}
-use Rattle.table.specs.declared.table.Spot.the-variants.{Held, Gap}
 use Rattle.table.specs.declared.table.Refused.{Refused}
 use Rattle.table.specs.declared.table.Refused.the-variants.{Present, Full}
-use Rattle.table.specs.Rows.{rising, Stands, Missing, rank, lookup, Only}
+use Rattle.table.specs.Rows.{rising, Stands, Missing, lookup, Only}
 
 -- the rows in use, in order
 abbrev pub live : {E K : Type 0} → Table E K → List E
@@ -43,11 +41,6 @@ module _ {E K : Type 0} (below : K → K → Bool) (keyed : E → K) where
   pub record Absent (k : K) (xs : List E) : Type 0 where
     pub missing : Missing below keyed k xs
     pub row : lookup below keyed k xs ≡ None
-
-  -- where the key k is: at a row that has it, or in a gap of the order
-  abbrev pub Spots : K → List E → Spot → Type 0
-  Spots k xs (Held i) = (i < length xs) × (rising below keyed xs ≡ true → Found k xs i)
-  Spots k xs (Gap i) = (i ≤ length xs) × (rising below keyed xs ≡ true → (i ≡ rank below keyed k xs) × Absent k xs)
 
   -- `search`: the place of the row with the key k, or none where no row has it
   abbrev pub Finds : K → Table E K → Option ℕ → Type 0

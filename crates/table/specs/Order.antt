@@ -1,6 +1,9 @@
 -- The order of keys.
 use mathlib.Core.Path.{_≡_}
 use mathlib.Core.Bool.{Bool, true, false, not, _&&_}
+use Prim.Native.Nat.{ℕ}
+use lib.Dec.{ltb}
+use Rattle.std.specs.Orderings.{Decides}
 use Rattle.base.specs.Texts.{before}
 use Rattle.base.specs.declared.texts.ShortText.{ShortText}
 
@@ -22,3 +25,7 @@ meets below a b = not (below a b) && not (below b a)
 -- the order of names: by bytes, a prefix first
 abbrev pub by-bytes : ShortText → ShortText → Bool
 by-bytes a b = before (a .bytes) (b .bytes)
+
+-- paths that meet are equal, and so are names; and equal ones meet
+abbrev pub One-key : Type 0
+One-key = ((a b : ℕ) → Decides (meets ltb a b) (a ≡ b)) × ((a b : ShortText) → Decides (meets by-bytes a b) (a ≡ b))

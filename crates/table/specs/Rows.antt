@@ -28,11 +28,6 @@ module _ {E K : Type 0} (below : K → K → Bool) (keyed : E → K) where
   abbrev pub Missing : K → List E → Type 0
   Missing k xs = (i : ℕ) → Stands k xs i → ⊥
 
-  -- how many rows at the front have keys below k: the place of k in the order
-  abbrev pub rank : K → List E → ℕ
-  rank k [] = 0
-  rank k (x ∷ xs) = cond (below (keyed x) k) (suc (rank k xs)) 0
-
   -- the rows as a function of the key: the row that has the key k
   abbrev pub lookup : K → List E → Option E
   lookup k [] = None

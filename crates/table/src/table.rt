@@ -5,8 +5,9 @@ ghost use Prim.Native.Nat.{ℕ, _+_, _-_, _<_, _≤_};
 ghost use lib.ListN.{length, take, set};
 ghost use Rattle.std.specs.Options.{Cases as BySome};
 ghost use Rattle.std.specs.shelf.Lists.{inserted, removed};
-ghost use Rattle.table.specs.Rows.{rising, rank, lookup};
-ghost use Rattle.table.specs.Answers.{live, room, Sorted, Found, Absent, Spots, Finds, Entered, Inserts, Replaced, Replaces, Removed, Removes, Takes};
+ghost use Rattle.table.specs.Rows.{rising, lookup};
+ghost use Rattle.table.specs.Spots.{rank, Spots};
+ghost use Rattle.table.specs.Answers.{live, room, Sorted, Found, Absent, Finds, Entered, Inserts, Replaced, Replaces, Removed, Removes, Takes};
 use crate::key::Element;
 use crate::key::Key;
 

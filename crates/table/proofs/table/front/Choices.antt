@@ -2,7 +2,8 @@ use Prim.Native.Nat.{_-_, _≤_}
 use mathlib.Core.Path.{_≡_}
 use mathlib.Core.Bool.{true}
 use lib.ListN.{length}
-use Rattle.table.specs.Rows.{rising, rank}
+use Rattle.table.specs.Rows.{rising}
+use Rattle.table.specs.Spots.{rank}
 use Rattle.table.proofs.table.front.Given as given
 
 abbrev pub Inv-loop-low : given.InvT-loop-low

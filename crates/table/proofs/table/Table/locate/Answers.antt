@@ -1,7 +1,7 @@
 use mathlib.Core.Path.{_≡_, sym, _∙_, ap, subst}
 use native.Mathlib.Omega.{arith}
 use Rattle.table.specs.declared.table.Spot.the-variants.{Held, Gap}
-use Rattle.table.specs.Answers.{Spots}
+use Rattle.table.specs.Spots.{Spots}
 use Rattle.table.proofs.Ranks.{rank-found, rank-missing, rank-end}
 use Rattle.table.proofs.Changes.{found, absent}
 use Rattle.table.proofs.table.Table.locate.Needs as need
