@@ -78,6 +78,9 @@ pub padded-holds : (kind : TextKind) (text : List ℕ) → allowed kind text ≡
 padded-holds kind text h =
     rw (padded-spelt kind text h, h, sameBytes-decides (padded text) (padded text) .1 refl) refl
 
+pub row-made : (kind : TextKind) (text : List ℕ) (row : ShortText) → allowed kind text ≡ true → row .bytes ≡ padded text → Some row ≡ row-of kind text
+row-made kind text row a e = rw a (ap (λ (r : ShortText). Some r) (same-row row (record { bytes = padded text }) e))
+
 pub row-of-holds : (kind : TextKind) (text : List ℕ) (row : ShortText) → Some row ≡ row-of kind text → holds kind (row .bytes) ≡ true
 row-of-holds kind text row = go (allowed kind text) refl
   where

@@ -4,12 +4,12 @@ use mathlib.Core.List.{List, [], _∷_, _++_}
 use mathlib.Core.Bool.{Bool, true, false, cond, _&&_}
 use Prim.Native.Nat.{ℕ, suc, _+_, _-_, _≤_, _<_}
 use native.Mathlib.Omega.{arith}
-use native.Mathlib.Nat.{sub-zero}
+use native.Mathlib.Nat.{sub-zero, not-suc-le-zero, le-of-suc-le-suc}
 use borrow.Rule.Slice.PartMut.{postOf}
 use lib.Dec.{eqb}
 use lib.ListN.{length, getD, drop, take, replicate}
 use Rattle.std.proofs.shelf.Lists.{at-drop-more, at-drop-all, length-take, drop-replicate}
-use Rattle.base.specs.Texts.{all, spelt, padded, fitting, may-begin, may-follow, allowed, spelled}
+use Rattle.base.specs.Texts.{all, spelt, padded, may-begin, may-follow, spelled}
 use Rattle.base.specs.declared.texts.TextKind.{TextKind}
 use Rattle.std.specs.shelf.Lists.{between}
 use Rattle.std.proofs.shelf.Parts.{first-rest}
@@ -49,8 +49,16 @@ spelt-short xs = let e = length-take (length (spelt xs)) xs in let f = ap length
 pub pads : (xs text : List ℕ) → xs ≡ text → xs ++ postOf 0 (length text - 0) (replicate 16 0) ≡ padded text
 pads xs text e = rw (e, sub-zero, drop-replicate {X = ℕ} (length text) 16 0) refl
 
--- a text of a fitting length that begins well is allowed if the rest may follow
-pub allowed-on : (kind : TextKind) (xs : List ℕ) → 0 < length xs → fitting kind (length xs) ≡ true → may-begin kind (getD xs 0 0) ≡ true
-    → all (may-follow kind) (between 1 (length xs) xs) ≡ allowed kind xs
-allowed-on kind xs h f e =
-    sym (ap (λ (b : Bool). b && spelled kind xs) f ∙ ap (spelled kind) (first-rest xs 0 h) ∙ ap (λ (b : Bool). b && all (may-follow kind) (between 1 (length xs) xs)) e)
+-- a text that begins well is spelled right if the rest may follow
+pub spelled-on : (kind : TextKind) (xs : List ℕ) → 0 < length xs → may-begin kind (getD xs 0 0) ≡ true
+    → all (may-follow kind) (between 1 (length xs) xs) ≡ spelled kind xs
+spelled-on kind xs h e =
+    sym (ap (spelled kind) (first-rest xs 0 h) ∙ ap (λ (b : Bool). b && all (may-follow kind) (between 1 (length xs) xs)) e)
+
+pub spelled-off : (kind : TextKind) (xs : List ℕ) → 0 < length xs → may-begin kind (getD xs 0 0) ≡ false → false ≡ spelled kind xs
+spelled-off kind xs h e =
+    sym (ap (spelled kind) (first-rest xs 0 h) ∙ ap (λ (b : Bool). b && all (may-follow kind) (between 1 (length xs) xs)) e)
+
+pub spelled-none : (kind : TextKind) (xs : List ℕ) → length xs < 1 → false ≡ spelled kind xs
+spelled-none kind [] h = refl
+spelled-none kind (x ∷ xs) h = absurd (not-suc-le-zero (le-of-suc-le-suc h))

@@ -46,6 +46,11 @@ abbrev pub spelled : TextKind → List ℕ → Bool
 spelled kind [] = false
 spelled kind (b ∷ bs) = may-begin kind b && all (may-follow kind) bs
 
+-- the bytes of a part of a text, at its front or, where it has begun, behind that
+abbrev pub spells : TextKind → Bool → List ℕ → Bool
+spells kind false bs = spelled kind bs
+spells kind true bs = all (may-follow kind) bs
+
 abbrev pub shortest : TextKind → ℕ
 shortest Name = 2
 shortest Version = 1

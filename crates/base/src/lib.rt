@@ -1,4 +1,5 @@
 // What every layer speaks of: refusals, and the texts of names and versions.
+mod files;
 mod laws;
 mod name;
 mod names;
@@ -10,6 +11,10 @@ mod texts;
 mod version;
 mod versions;
 
+pub use files::FileKind;
+pub use files::FileKindDebug;
+pub use files::FileKindEq;
+pub use files::FileKindPartialEq;
 pub use laws::told_by_text;
 pub use name::Name;
 pub use names::NameEq;

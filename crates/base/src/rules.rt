@@ -4,7 +4,7 @@ use crate::texts::TextKind;
 
 impl TextKind {
     // Whether a text of this kind may begin with this byte.
-    pub fn may_begin(self, b: u8) -> bool
+    pub(crate) fn may_begin(self, b: u8) -> bool
         ensures { λ r. ⌜ r ≡ may-begin self b ⌝ }
     {
         match self {
@@ -14,7 +14,7 @@ impl TextKind {
     }
 
     // Whether this byte may stand behind the first.
-    pub fn may_follow(self, b: u8) -> bool
+    pub(crate) fn may_follow(self, b: u8) -> bool
         ensures { λ r. ⌜ r ≡ may-follow self b ⌝ }
     {
         match self {

@@ -1,9 +1,11 @@
 ghost use mathlib.Core.Path.{_≡_};
 ghost use Prim.Native.Nat.{_≤_};
 ghost use lib.ListN.{length};
+ghost use mathlib.Core.Bool.{true};
+ghost use Rattle.std.specs.Options.{Cases as BySome};
 ghost use Rattle.std.specs.Orderings.{Decides};
 ghost use Rattle.base.specs.Named.{row-of, row-if};
-ghost use Rattle.base.specs.Texts.{all, allowed, spelt, padded, before, may-follow};
+ghost use Rattle.base.specs.Texts.{all, allowed, spelt, padded, before, may-follow, spells, holds};
 use crate::texts::ShortText;
 use crate::texts::TextKind;
 
@@ -19,19 +21,28 @@ fn all_follow(kind: TextKind, text: &[u8]) -> bool
     true
 }
 
+impl TextKind {
+    // Whether these bytes may stand in a text, at its front or, where it has begun, behind that.
+    pub fn spells(self, begun: bool, text: &[u8]) -> bool
+        ensures { λ r. ⌜ r ≡ spells self begun (now (text .entry)) ⌝ }
+    {
+        if begun {
+            return all_follow(self, text);
+        }
+        let [first, rest @ ..] = text else {
+            return false;
+        };
+        if !self.may_begin(*first) {
+            return false;
+        }
+        all_follow(self, rest)
+    }
+}
+
 fn is_allowed(kind: TextKind, text: &[u8]) -> bool
     ensures { λ r. ⌜ r ≡ allowed kind (now (text .entry)) ⌝ }
 {
-    if !kind.fits(text.len()) {
-        return false;
-    }
-    let [first, rest @ ..] = text else {
-        return false;
-    };
-    if !kind.may_begin(*first) {
-        return false;
-    }
-    all_follow(kind, rest)
+    kind.fits(text.len()) && kind.spells(false, text)
 }
 
 fn zero_padded(text: &[u8]) -> ShortText
@@ -58,7 +69,8 @@ pub impl Eq for ShortText as ShortTextEq {}
 impl ShortText {
     // The row that holds this text, if the text is one of this kind.
     pub(crate) fn holding(kind: TextKind, text: &[u8]) -> Option<ShortText>
-        ensures { λ r. ⌜ r ≡ row-of kind (now (text .entry)) ⌝ }
+        ensures value { λ r. ⌜ r ≡ row-of kind (now (text .entry)) ⌝ }
+        ensures held { λ r. ⌜ BySome r (Unit {0}) (λ row. holds kind (row .bytes) ≡ true) ⌝ }
     {
         if is_allowed(kind, text) {
             Some(zero_padded(text))
@@ -69,7 +81,8 @@ impl ShortText {
 
     // This row, if it holds a text of this kind.
     pub(crate) fn checked(self, kind: TextKind) -> Option<ShortText>
-        ensures { λ r. ⌜ r ≡ row-if kind self ⌝ }
+        ensures value { λ r. ⌜ r ≡ row-if kind self ⌝ }
+        ensures held { λ r. ⌜ BySome r (Unit {0}) (λ row. holds kind (row .bytes) ≡ true) ⌝ }
     {
         let text = self.as_bytes();
         if !is_allowed(kind, text) {
