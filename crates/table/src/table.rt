@@ -188,7 +188,8 @@ impl<'a, E: Element> Table<'a, E> {
         Some(live[i])
     }
 
-    // Puts a row in at its place, and answers that place. A row whose key is there already is refused, and so is any other where no row is free.
+    // Puts a row in at its place, and answers that place.
+    // A row whose key is there already is refused, and so is any other where no row is free.
     pub fn insert(&mut self, row: E) -> Result<usize, Refused>
         ensures room { λ _. ⌜ room (now (self .exit)) ≡ room (now (self .entry)) ⌝ }
         ensures inserts { λ r. ⌜ (Sorted (K·Key .below) (E·Element .keyed) (now (self .entry)) → Inserts (K·Key .below) (E·Element .keyed) row (now (self .entry)) r (now (self .exit))) ⌝ }

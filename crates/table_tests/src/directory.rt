@@ -1,4 +1,5 @@
 ghost use mathlib.Core.Path.{_≡_};
+ghost use mathlib.Core.List.{[]};
 ghost use Rattle.table.specs.Order.{by-bytes};
 ghost use Rattle.table.specs.Answers.{live, Sorted, Inserts};
 use crate::rows::Record;
@@ -15,7 +16,9 @@ pub struct Directory<'a> {
 }
 
 impl<'a> Directory<'a> {
-    pub fn new(rows: &'a mut [Record]) -> Self {
+    pub fn new(rows: &'a mut [Record]) -> Self
+        ensures { λ r. ⌜ live (r .records) ≡ [] ⌝ }
+    {
         Directory {
             records: Table::empty(rows),
         }

@@ -1,6 +1,7 @@
 // Tables at work: packages by name, and owned paths by number.
 mod directory;
 mod rows;
+mod tens;
 #[cfg(test)]
 mod tests;
 
@@ -9,3 +10,6 @@ pub use rows::Owner;
 pub use rows::OwnerByPath;
 pub use rows::Record;
 pub use rows::RecordByName;
+pub use tens::ByTens;
+pub use tens::Tens;
+pub use tens::TensByTens;

@@ -4,6 +4,11 @@ use crate::rows::OwnerByPath;
 use crate::rows::OwnerDebug;
 use crate::rows::OwnerPartialEq;
 use crate::rows::Record;
+use crate::tens::ByTens;
+use crate::tens::Tens;
+use crate::tens::TensByTens;
+use crate::tens::TensDebug;
+use crate::tens::TensPartialEq;
 use base::Name;
 use base::ShortText;
 use std::test::*;
@@ -104,4 +109,24 @@ fn names_rise_by_bytes_a_prefix_first() -> Result<(), Fail> {
         *mark = record.mark;
     }
     check_eq(marks, [2, 3, 1, 0])
+}
+
+#[test]
+fn keys_that_compare_alike_are_one_key() -> Result<(), Fail> {
+    let mut memory = [Tens(0); 3];
+    let mut table = Table::empty(&mut memory);
+    let answers = [
+        table.insert(Tens(30)),
+        table.insert(Tens(12)),
+        table.insert(Tens(17)),
+    ];
+    check_eq(answers, [Ok(0), Ok(0), Err(Refused::Present(0))])?;
+    check_eq(
+        [
+            table.replace(Tens(19)),
+            table.find(Tens(10)),
+            table.find(Tens(20)),
+        ],
+        [Some(Tens(12)), Some(Tens(19)), None],
+    )
 }
