@@ -4,13 +4,13 @@ use mathlib.Core.List.{List, [], _∷_}
 use mathlib.Core.Bool.{Bool, true, false, cond}
 use Prim.Native.Nat.{ℕ, zero, suc}
 use lib.ListN.{getD, set}
-use Rattle.std.specs.declared.option.Option.{Option}
 use Rattle.std.specs.declared.option.Option.the-variants.{Some, None}
 use Rattle.std.specs.shelf.Lists.{inserted, removed}
-use Rattle.std.proofs.shelf.Tests.{both-ways, and-parts}
+use Rattle.std.proofs.shelf.Tests.{both-ways}
 use Rattle.table.specs.Order.{Total, meets}
 use Rattle.table.specs.Rows.{under, rising, Stands, Missing, lookup, Only}
-use Rattle.table.proofs.Meets.{meets-sym, meets-parts, meets-meets, below-apart}
+use Rattle.table.proofs.Heads.{rising-parts}
+use Rattle.table.proofs.Meets.{meets-sym, meets-meets, below-apart}
 use Rattle.table.proofs.Ranks.{under-stands}
 
 -- a test before another, where both are never met
@@ -28,15 +28,12 @@ module _ {E K : Type 0} {below : K → K → Bool} {same : K → K → Type 0} (
 
   -- the first of rising rows is the only one of its key
   first-only : (k : K) (x : E) (xs : List E) (i : ℕ) → rising below keyed (x ∷ xs) ≡ true → Stands below keyed k xs i → meets below (keyed x) k ≡ false
-  first-only k x xs i r s = below-apart total (keyed x) k (under-stands total keyed (keyed x) k xs i (and-parts (under below keyed (keyed x) xs) (rising below keyed xs) r .0) s)
-
-  rest-rising : (x : E) (xs : List E) → rising below keyed (x ∷ xs) ≡ true → rising below keyed xs ≡ true
-  rest-rising x xs r = and-parts (under below keyed (keyed x) xs) (rising below keyed xs) r .1
+  first-only k x xs i r s = below-apart total (keyed x) k (under-stands total keyed (keyed x) k xs i (rising-parts below keyed x xs r .0) s)
 
   pub look-stands : (k : K) (xs : List E) (i : ℕ) (x : E) → rising below keyed xs ≡ true → x ≡ getD xs i x → Stands below keyed k xs i → lookup below keyed k xs ≡ Some x
   look-stands k [] i x r e s = absurd s
   look-stands k (y ∷ ys) zero x r e s = rw s (ap Some (sym e))
-  look-stands k (y ∷ ys) (suc i) x r e s = rw (first-only k y ys i r s) (look-stands k ys i x (rest-rising y ys r) e s)
+  look-stands k (y ∷ ys) (suc i) x r e s = rw (first-only k y ys i r s) (look-stands k ys i x (rising-parts below keyed y ys r .1) e s)
 
   -- two keys that meet a third meet
   both-meet : (a b q : K) → meets below a q ≡ true → meets below b q ≡ true → meets below a b ≡ true
@@ -56,7 +53,7 @@ module _ {E K : Type 0} {below : K → K → Bool} {same : K → K → Type 0} (
       (elim (meets below (keyed e) q) as (λ b. cond b (Some e) (lookup below keyed q xs) ≡ cond b (Some e) (cond b (Some x) (lookup below keyed q xs)))
       [ true ↦ refl | false ↦ refl ])
   only-set e (x ∷ xs) (suc i) r s q =
-      ap (cond (meets below (keyed x) q) (Some x)) (only-set e xs i (rest-rising x xs r) s q)
+      ap (cond (meets below (keyed x) q) (Some x)) (only-set e xs i (rising-parts below keyed x xs r .1) s q)
       ∙ swap (meets below (keyed x) q) (meets below (keyed e) q) (Some x) (Some e) (lookup below keyed q xs)
       (λ p t. both-ways (meets below (keyed x) (keyed e)) (first-only (keyed e) x xs i r s) (both-meet (keyed x) (keyed e) q p t))
 
@@ -69,6 +66,6 @@ module _ {E K : Type 0} {below : K → K → Bool} {same : K → K → Type 0} (
         | false ↦ λ p. refl
       ]) refl)
   only-removed k (x ∷ xs) (suc i) r s q =
-      ap (cond (meets below (keyed x) q) (Some x)) (only-removed k xs i (rest-rising x xs r) s q)
+      ap (cond (meets below (keyed x) q) (Some x)) (only-removed k xs i (rising-parts below keyed x xs r .1) s q)
       ∙ swap (meets below (keyed x) q) (meets below k q) (Some x) None (lookup below keyed q xs)
       (λ p t. both-ways (meets below (keyed x) k) (first-only k x xs i r s) (both-meet (keyed x) k q p t))

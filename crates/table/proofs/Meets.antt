@@ -32,9 +32,6 @@ module _ {K : Type 0} {below : K → K → Bool} {same : K → K → Type 0} (to
   pub below-apart : (a b : K) → below a b ≡ true → meets below a b ≡ false
   below-apart a b h = rw h
 
-  pub above-apart : (a b : K) → below b a ≡ true → meets below a b ≡ false
-  above-apart a b h = meets-sym a b ∙ below-apart b a h
-
   -- keys that meet lie alike to any other key
   pub meets-below : (a b c : K) → meets below a b ≡ true → below a c ≡ below b c
   meets-below a b c h = total .like a b c (meets-same a b h)

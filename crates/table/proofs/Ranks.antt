@@ -7,10 +7,11 @@ use Prim.Native.Nat.{ℕ, zero, suc, _≤_, _<_}
 use native.Mathlib.Nat.{not-suc-le-zero, le-of-suc-le-suc}
 use native.Mathlib.Omega.{arith}
 use lib.ListN.{length, getD}
-use Rattle.std.proofs.shelf.Tests.{both-ways, and-parts, cases-bool, cond-both}
+use Rattle.std.proofs.shelf.Tests.{both-ways, cases-bool, cond-both}
 use Rattle.table.specs.Order.{Total, meets}
 use Rattle.table.specs.Rows.{under, rising, Stands, Missing}
 use Rattle.table.specs.Spots.{rank}
+use Rattle.table.proofs.Heads.{under-parts, rising-parts}
 use Rattle.table.proofs.Meets.{meets-parts, meets-from, meets-above}
 
 pub rank-within : {E K : Type 0} (below : K → K → Bool) (keyed : E → K) (k : K) (xs : List E) → rank below keyed k xs ≤ length xs
@@ -47,29 +48,29 @@ stands-read below keyed k (y ∷ ys) (suc i) x e s = stands-read below keyed k y
 module _ {E K : Type 0} {below : K → K → Bool} {same : K → K → Type 0} (total : Total below same) (keyed : E → K) where
   pub under-stands : (a k : K) (xs : List E) (i : ℕ) → under below keyed a xs ≡ true → Stands below keyed k xs i → below a k ≡ true
   under-stands a k [] i u s = absurd s
-  under-stands a k (x ∷ xs) zero u s = sym (meets-above total (keyed x) k a s) ∙ and-parts (below a (keyed x)) (under below keyed a xs) u .0
-  under-stands a k (x ∷ xs) (suc i) u s = under-stands a k xs i (and-parts (below a (keyed x)) (under below keyed a xs) u .1) s
+  under-stands a k (x ∷ xs) zero u s = sym (meets-above total (keyed x) k a s) ∙ under-parts below keyed a x xs u .0
+  under-stands a k (x ∷ xs) (suc i) u s = under-stands a k xs i (under-parts below keyed a x xs u .1) s
 
   -- a key stands at one place alone
   pub stands-rank : (k : K) (xs : List E) (i : ℕ) → rising below keyed xs ≡ true → Stands below keyed k xs i → i ≡ rank below keyed k xs
   stands-rank k [] i r s = absurd s
   stands-rank k (x ∷ xs) zero r s = let b = meets-parts total (keyed x) k s .0 in rw b
   stands-rank k (x ∷ xs) (suc i) r s =
-      let p = and-parts (under below keyed (keyed x) xs) (rising below keyed xs) r in
+      let p = rising-parts below keyed x xs r in
       let b = under-stands (keyed x) k xs i (p .0) s in
       rw b (ap suc (stands-rank k xs i (p .1) s))
 
   under-read : (a : K) (xs : List E) (i : ℕ) (x : E) → i < length xs → x ≡ getD xs i x → under below keyed a xs ≡ true → below a (keyed x) ≡ true
   under-read a [] i x h e u = absurd (not-suc-le-zero h)
-  under-read a (y ∷ ys) zero x h e u = ap (λ z. below a (keyed z)) e ∙ and-parts (below a (keyed y)) (under below keyed a ys) u .0
-  under-read a (y ∷ ys) (suc i) x h e u = under-read a ys i x (le-of-suc-le-suc h) e (and-parts (below a (keyed y)) (under below keyed a ys) u .1)
+  under-read a (y ∷ ys) zero x h e u = ap (λ z. below a (keyed z)) e ∙ under-parts below keyed a y ys u .0
+  under-read a (y ∷ ys) (suc i) x h e u = under-read a ys i x (le-of-suc-le-suc h) e (under-parts below keyed a y ys u .1)
 
   pub rank-past : (k : K) (xs : List E) (i : ℕ) (x : E) → i < length xs → x ≡ getD xs i x → rising below keyed xs ≡ true
       → below (keyed x) k ≡ true → i < rank below keyed k xs
   rank-past k [] i x h e r b = absurd (not-suc-le-zero h)
   rank-past k (y ∷ ys) zero x h e r b = let b' : below (keyed y) k ≡ true = ap (λ z. below (keyed z) k) (sym e) ∙ b in rw b' (omega arith)
   rank-past k (y ∷ ys) (suc i) x h e r b =
-      let p = and-parts (under below keyed (keyed y) ys) (rising below keyed ys) r in
+      let p = rising-parts below keyed y ys r in
       let b' = total .trans (keyed y) (keyed x) k (under-read (keyed y) ys i x (le-of-suc-le-suc h) e (p .0)) b in
       let ih = rank-past k ys i x (le-of-suc-le-suc h) e (p .1) b in
       rw b' (omega arith)

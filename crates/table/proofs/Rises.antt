@@ -1,48 +1,37 @@
 -- The keys still rise after a row is taken out, put in at its place, or replaced by another of its key.
 use mathlib.Core.Path.{_≡_, refl, sym, _∙_}
 use mathlib.Core.List.{List, [], _∷_}
-use mathlib.Core.Bool.{Bool, true, false, cond}
+use mathlib.Core.Bool.{Bool, true}
 use Prim.Native.Nat.{ℕ, zero, suc}
 use lib.ListN.{set}
 use Rattle.std.specs.shelf.Lists.{inserted, removed}
-use Rattle.std.proofs.shelf.Tests.{and-parts, and-from, cond-both}
+use Rattle.std.proofs.shelf.Tests.{cond-both}
 use Rattle.table.specs.Order.{Total, meets}
 use Rattle.table.specs.Rows.{under, rising, Stands, Missing}
 use Rattle.table.specs.Spots.{rank}
+use Rattle.table.proofs.Heads.{under-parts, under-from, rising-parts, rising-from}
 use Rattle.table.proofs.Meets.{meets-sym, meets-below, meets-above, other-below}
 
 module _ {E K : Type 0} (below : K → K → Bool) (keyed : E → K) where
-  under-parts : (k : K) (x : E) (xs : List E) → under below keyed k (x ∷ xs) ≡ true → (below k (keyed x) ≡ true) × (under below keyed k xs ≡ true)
-  under-parts k x xs = and-parts (below k (keyed x)) (under below keyed k xs)
-
-  under-from : (k : K) (x : E) (xs : List E) → below k (keyed x) ≡ true → under below keyed k xs ≡ true → under below keyed k (x ∷ xs) ≡ true
-  under-from k x xs = and-from (below k (keyed x)) (under below keyed k xs)
-
-  rising-parts : (x : E) (xs : List E) → rising below keyed (x ∷ xs) ≡ true → (under below keyed (keyed x) xs ≡ true) × (rising below keyed xs ≡ true)
-  rising-parts x xs = and-parts (under below keyed (keyed x) xs) (rising below keyed xs)
-
-  rising-from : (x : E) (xs : List E) → under below keyed (keyed x) xs ≡ true → rising below keyed xs ≡ true → rising below keyed (x ∷ xs) ≡ true
-  rising-from x xs = and-from (under below keyed (keyed x) xs) (rising below keyed xs)
-
   under-removed : (k : K) (xs : List E) (i : ℕ) → under below keyed k xs ≡ true → under below keyed k (removed xs i) ≡ true
   under-removed k [] zero u = refl
   under-removed k [] (suc i) u = refl
-  under-removed k (x ∷ xs) zero u = under-parts k x xs u .1
+  under-removed k (x ∷ xs) zero u = under-parts below keyed k x xs u .1
   under-removed k (x ∷ xs) (suc i) u =
-      under-from k x (removed xs i) (under-parts k x xs u .0) (under-removed k xs i (under-parts k x xs u .1))
+      under-from below keyed k x (removed xs i) (under-parts below keyed k x xs u .0) (under-removed k xs i (under-parts below keyed k x xs u .1))
 
   pub rising-removed : (xs : List E) (i : ℕ) → rising below keyed xs ≡ true → rising below keyed (removed xs i) ≡ true
   rising-removed [] zero r = refl
   rising-removed [] (suc i) r = refl
-  rising-removed (x ∷ xs) zero r = rising-parts x xs r .1
+  rising-removed (x ∷ xs) zero r = rising-parts below keyed x xs r .1
   rising-removed (x ∷ xs) (suc i) r =
-      rising-from x (removed xs i) (under-removed (keyed x) xs i (rising-parts x xs r .0)) (rising-removed xs i (rising-parts x xs r .1))
+      rising-from below keyed x (removed xs i) (under-removed (keyed x) xs i (rising-parts below keyed x xs r .0)) (rising-removed xs i (rising-parts below keyed x xs r .1))
 
   under-inserted : (k : K) (xs : List E) (i : ℕ) (e : E) → below k (keyed e) ≡ true → under below keyed k xs ≡ true → under below keyed k (inserted xs i e) ≡ true
-  under-inserted k xs zero e b u = under-from k e xs b u
-  under-inserted k [] (suc i) e b u = under-from k e [] b refl
+  under-inserted k xs zero e b u = under-from below keyed k e xs b u
+  under-inserted k [] (suc i) e b u = under-from below keyed k e [] b refl
   under-inserted k (x ∷ xs) (suc i) e b u =
-      under-from k x (inserted xs i e) (under-parts k x xs u .0) (under-inserted k xs i e b (under-parts k x xs u .1))
+      under-from below keyed k x (inserted xs i e) (under-parts below keyed k x xs u .0) (under-inserted k xs i e b (under-parts below keyed k x xs u .1))
 
 module _ {E K : Type 0} {below : K → K → Bool} {same : K → K → Type 0} (total : Total below same) (keyed : E → K) where
   under-trans : (a b : K) (xs : List E) → below a b ≡ true → under below keyed b xs ≡ true → under below keyed a xs ≡ true

@@ -1,4 +1,4 @@
-use mathlib.Core.Path.{_≡_, sym, _∙_, ap, subst}
+use mathlib.Core.Path.{sym, _∙_, ap, subst}
 use native.Mathlib.Omega.{arith}
 use Rattle.table.specs.declared.table.Spot.the-variants.{Held, Gap}
 use Rattle.table.specs.Spots.{Spots}
