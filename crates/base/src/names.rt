@@ -28,7 +28,8 @@ impl Name {
     pub fn row(&self) -> ShortText
         ensures { λ r. ⌜ r ≡ now (self .entry) .row ⌝ }
     {
-        self.row
+        let Name { row, .. } = self;
+        *row
     }
 
     // The bytes of the name.

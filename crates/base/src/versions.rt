@@ -27,7 +27,8 @@ impl Version {
     pub fn row(&self) -> ShortText
         ensures { λ r. ⌜ r ≡ now (self .entry) .row ⌝ }
     {
-        self.row
+        let Version { row, .. } = self;
+        *row
     }
 
     // The bytes of the version.
