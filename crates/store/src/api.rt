@@ -44,6 +44,10 @@ pub trait Store {
         ensures files { λ _. ⌜ files (now (self .exit)) ≡ set (files (now (self .entry))) key None ⌝ }
         ensures units { λ _. ⌜ units (now (self .exit)) ≡ units (now (self .entry)) ⌝ };
 
+    // Whether the key holds a file.
+    fn held(&self, key: usize) -> bool
+        ensures { λ r. ⌜ r ≡ isSome (fileAt (files (now (self .entry))) key) ⌝ };
+
     // How many words the key holds; `None` where it is empty.
     fn length(&self, key: usize) -> Option<usize>
         ensures { λ r. ⌜ r ≡ lengthOf (fileAt (files (now (self .entry))) key) ⌝ };
@@ -51,10 +55,4 @@ pub trait Store {
     // The words of the key's file from block `at` on, as far as they stand together: one block's. They are lent, not copied.
     fn part(&self, key: usize, at: usize) -> &[u32]
         ensures { λ r. ⌜ now r ≡ take block (drop (at * block) (wordsOf (fileAt (files (now (self .entry))) key))) ⌝ };
-
-    fn held(&self, key: usize) -> bool
-        ensures { λ r. ⌜ r ≡ isSome (fileAt (files (now (self .entry))) key) ⌝ }
-    {
-        self.length(key).is_some()
-    }
 }

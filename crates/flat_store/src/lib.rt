@@ -1,0 +1,3 @@
+pub mod cells;
+pub mod flat;
+mod image;
