@@ -9,7 +9,7 @@ use Rattle.std.specs.Options.{isSome}
 use Rattle.std.specs.declared.option.Option.the-variants.{Some, None}
 use Rattle.std.proofs.shelf.Sums.{sumBy-set, getD-le-sumBy}
 use Rattle.std.proofs.shelf.Tests.{and-from, and-left, and-right, le-leb, lt-leb, lt-ltb, le-ltb, eq-eqb, ne-eqb, not-from-true, not-from-false, cond-true, cond-false}
-use Rattle.store.specs.Files.{File, Files, keyCount, longest, fileAt, unitsOf, used, admits, moved}
+use Rattle.store.specs.Files.{File, Files, keyCount, longest, fileAt, unitsOf, used, admits, moved, lengthOf}
 
 pub used-set : (b : ℕ) (fs : Files) (k : ℕ) (f : File) → k < length fs → used b (set fs k f) + unitsOf b (fileAt fs k) ≡ used b fs + unitsOf b f
 used-set b fs k f h = sumBy-set (unitsOf b) fs k f None h
@@ -39,3 +39,7 @@ moved-onto fs from to e =
 
 pub moved-yes : (fs : Files) (from to : ℕ) → isSome (fileAt fs from) ≡ true → to < keyCount → (from ≡ to → ⊥) → set (set fs to (fileAt fs from)) from None ≡ moved fs from to
 moved-yes fs from to h i j = sym (cond-true _ _ _ (and-from _ _ h (and-from _ _ (lt-ltb _ _ i) (not-from-false _ (ne-eqb _ _ j)))))
+
+pub length-some : (f : File) → isSome (lengthOf f) ≡ isSome f
+length-some None = refl
+length-some (Some ws) = refl

@@ -1,0 +1,4 @@
+mod WalkFacts
+mod FileFacts
+mod ChainFacts
+mod Sounds

@@ -1,0 +1,14 @@
+use mathlib.Core.Path.{sym, ap}
+use native.Mathlib.Omega.{arith}
+use Rattle.store.specs.Files.{lengthOf}
+use Rattle.block_store.proofs.FileFacts.{file-past, file-none, file-length}
+use Rattle.block_store.proofs.cells.Chains.length.Needs as need
+
+pub returns-then-key-ge-KEYS : need.returns-then-key-ge-KEYS
+returns-then-key-ge-KEYS c = let m = c .args .self .now in sym (ap lengthOf (file-past (m .dir .now) (m .blocks .now) (c .pre .sound .0) (c .args .key) (c .if-key-ge-KEYS .taken)))
+
+pub returns-then-chain-gt0 : need.returns-then-chain-gt0
+returns-then-chain-gt0 c = let m = c .args .self .now in file-length (m .dir .now) (m .blocks .now) (c .pre .sound) (c .args .key) (omega arith) (c .if-chain-gt0 .taken)
+
+pub returns-else-chain-gt0 : need.returns-else-chain-gt0
+returns-else-chain-gt0 c = let m = c .args .self .now in sym (ap lengthOf (file-none (m .dir .now) (m .blocks .now) (c .pre .sound .0) (c .args .key) (omega arith) (c .if-chain-gt0 .left)))

@@ -1,0 +1,115 @@
+ghost use Prim.Native.Nat.{ℕ, _+_, _≤_, _<_};
+ghost use lib.Dec.{lit≤};
+ghost use lib.ListN.{length, replicate};
+ghost use mathlib.Core.Path.{_≡_};
+ghost use Rattle.std.specs.declared.option.Option.the-variants.{None};
+ghost use Rattle.store.specs.Files.{keyCount, used};
+ghost use Rattle.block_store.specs.Chained.{Sound, filesIn, unitsIn, none, nextIn, wordsIn};
+use crate::cells::Block;
+use crate::cells::Chain;
+use crate::cells::Chains;
+use store::api::Store;
+use store::keys::KEYS;
+
+// How many chains a caller lends: one for each key, and that of the free blocks.
+pub const CHAINS: usize = KEYS + 1;
+
+// The block store: each file lies in a chain of blocks, and the blocks of no file are in the free chain.
+#[derive(Drop)]
+pub struct BlockStore<'a> {
+    chains: Chains<'a>,
+    ghost sound: { ∥ Sound chains ∥₁ },
+    ghost keys: { length (filesIn chains) ≡ keyCount },
+    ghost room: { used 4 (filesIn chains) ≤ unitsIn chains },
+}
+
+pub impl<'a> Store for BlockStore<'a> as BlockFiles {
+    const BLOCK: usize = 4;
+
+    ghost block = { 4 };
+
+    ghost units = { λ s. unitsIn (s .chains) };
+
+    ghost files = { λ s. filesIn (s .chains) };
+
+    ghost wide = { lit≤ tt };
+
+    ghost keys = { λ s. s .keys };
+
+    ghost room = { λ s. s .room };
+
+    fn block_len() -> usize
+        ensures { λ r. ⌜ r ≡ 4 ⌝ }
+    {
+        Self::BLOCK
+    }
+
+    fn put(&mut self, key: usize, words: &[u32]) -> bool {
+        self.chains.put(key, words)
+    }
+
+    fn carry(&mut self, from: usize, to: usize) {
+        self.chains.carry(from, to)
+    }
+
+    fn clear(&mut self, key: usize) {
+        self.chains.clear(key)
+    }
+
+    fn held(&self, key: usize) -> bool {
+        self.chains.length(key).is_some()
+    }
+
+    fn length(&self, key: usize) -> Option<usize> {
+        self.chains.length(key)
+    }
+
+    fn part(&self, key: usize, at: usize) -> &[u32] {
+        self.chains.part(key, at)
+    }
+}
+
+// No chain has a block.
+fn empty_all(dir: &mut [Chain])
+    ensures { λ _. ⌜ now (dir .exit) ≡ replicate (length (now (dir .entry))) none ⌝ }
+{
+    for i in 0..dir.len() {
+        dir[i] = Chain {
+            first: 0,
+            blocks: 0,
+            len: 0,
+        };
+    }
+}
+
+// Each block is followed by the next one.
+fn link_all(blocks: &mut [Block])
+    ensures next { λ _. ⌜ ((p : ℕ) → p < length (now (blocks .exit)) → nextIn (now (blocks .exit)) p ≡ p + 1) ⌝ }
+    ensures wide { λ _. ⌜ ((p : ℕ) → p < length (now (blocks .exit)) → length (wordsIn (now (blocks .exit)) p) ≡ 4) ⌝ }
+{
+    for i in 0..blocks.len() {
+        blocks[i] = Block {
+            next: i + 1,
+            words: [0; 4],
+        };
+    }
+}
+
+impl<'a> BlockStore<'a> {
+    // An empty store over the caller's memory, whatever that holds: each block is one unit.
+    pub fn format(dir: &'a mut [Chain; CHAINS], blocks: &'a mut [Block]) -> BlockStore<'a>
+        ensures files { λ r. ⌜ filesIn (r .chains) ≡ replicate keyCount None ⌝ }
+        ensures units { λ r. ⌜ unitsIn (r .chains) ≡ length (now (blocks .entry)) ⌝ }
+    {
+        empty_all(dir);
+        link_all(blocks);
+        dir[KEYS] = Chain {
+            first: 0,
+            blocks: blocks.len(),
+            len: 0,
+        };
+        BlockStore {
+            chains: Chains { dir, blocks },
+        }
+    }
+}

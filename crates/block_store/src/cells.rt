@@ -1,0 +1,42 @@
+// What a caller lends to a block store: a chain for each key and one of the free blocks, and blocks.
+
+// Four words of a file, and the block that goes on.
+#[derive(Clone, Copy)]
+pub struct Block {
+    pub next: usize,
+    pub words: [u32; 4],
+}
+
+// A chain: its first block, how many blocks it has, and how many words they hold. No blocks: no file.
+#[derive(Clone, Copy)]
+pub struct Chain {
+    pub first: usize,
+    pub blocks: usize,
+    pub len: usize,
+}
+
+// The chain of each key and, last, that of the free blocks; and the blocks.
+#[derive(Drop)]
+pub struct Chains<'a> {
+    pub dir: &'a mut [Chain],
+    pub blocks: &'a mut [Block],
+}
+
+impl Block {
+    pub fn blank() -> Block {
+        Block {
+            next: 0,
+            words: [0; 4],
+        }
+    }
+}
+
+impl Chain {
+    pub fn empty() -> Chain {
+        Chain {
+            first: 0,
+            blocks: 0,
+            len: 0,
+        }
+    }
+}

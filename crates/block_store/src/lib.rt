@@ -1,0 +1,3 @@
+pub mod blocks;
+pub mod cells;
+mod chains;
