@@ -1,0 +1,69 @@
+mod client;
+mod dice;
+mod drive;
+mod model;
+mod pass;
+
+use crate::drive::Tally;
+use crate::drive::drive;
+use crate::drive::rounds;
+use crate::model::Model;
+use block_store::blocks::BlockFiles;
+use block_store::blocks::BlockStore;
+use block_store::blocks::CHAINS;
+use block_store::cells::Block;
+use block_store::cells::Chain;
+use flat_store::cells::Entry;
+use flat_store::cells::Slot;
+use flat_store::flat::FlatFiles;
+use flat_store::flat::FlatStore;
+use std::error::AnyError;
+use store::api::Store;
+use store::keys::KEYS;
+
+// How many calls each store gets.
+const CALLS: u32 = 8000;
+
+// Of its puts more than this must be admitted, and more than this refused for want of units, or the run shows little.
+const OFTEN: u32 = 500;
+
+fn report(rt: &LibcRuntime, name: &str, tally: Tally, kept: bool) -> Result<(), AnyError> {
+    let calls = tally.calls;
+    if tally.differences == 0 {
+        println!(rt, "{name}: {calls} calls, no difference")?;
+    } else {
+        let differences = tally.differences;
+        println!(rt, "{name}: {calls} calls, {differences} differences")?;
+    }
+    let often = tally.admitted > OFTEN && tally.refused > OFTEN;
+    println!(
+        rt,
+        "{name}: over 500 puts admitted, over 500 refused for want of units: {often}"
+    )?;
+    println!(rt, "{name}: set aside, put, put back, discard: {kept}")?;
+    Ok(())
+}
+
+fn trial<S: Store>(
+    rt: &LibcRuntime,
+    name: &str,
+    store: &mut S,
+    units: usize,
+) -> Result<(), AnyError> {
+    let mut model = Model::new(rt.alloc(), S::block_len(), units)?;
+    let tally = drive(store, &mut model, CALLS);
+    let kept = rounds(store, &mut model);
+    report(rt, name, tally, kept)
+}
+
+fn main(rt: LibcRuntime) -> Result<(), AnyError> {
+    let mut dir = [Entry::empty(); KEYS];
+    let mut slots = [Slot::blank(); 6];
+    let mut flat = FlatStore::format(&mut dir, &mut slots);
+    trial(&rt, "flat image", &mut flat, 6)?;
+    let mut chains = [Chain::empty(); CHAINS];
+    let mut blocks = [Block::blank(); 24];
+    let mut chained = BlockStore::format(&mut chains, &mut blocks);
+    trial(&rt, "block store", &mut chained, 24)?;
+    Ok(())
+}
