@@ -3,6 +3,7 @@ ghost use lib.ListN.{length, getD, set, take, drop};
 ghost use mathlib.Core.Bool.{cond};
 ghost use mathlib.Core.List.{_++_};
 ghost use mathlib.Core.Path.{_≡_};
+ghost use Rattle.std.specs.Options.{isSome};
 ghost use Rattle.std.specs.declared.option.Option.the-variants.{Some, None};
 ghost use Rattle.store.specs.Files.{keyCount, longest, cost, fileAt, admits, moved, lengthOf, wordsOf};
 ghost use Rattle.block_store.specs.Walks.{chainCount};
@@ -191,7 +192,8 @@ impl<'a> Chains<'a> {
 
     pub fn length(&self, key: usize) -> Option<usize>
         requires sound { ⌜ Sound (now self) ⌝ }
-        ensures { λ r. ⌜ r ≡ lengthOf (fileAt (filesIn (now (self .entry))) key) ⌝ }
+        ensures is { λ r. ⌜ r ≡ lengthOf (fileAt (filesIn (now (self .entry))) key) ⌝ }
+        ensures held { λ r. ⌜ isSome r ≡ isSome (fileAt (filesIn (now (self .entry))) key) ⌝ }
     {
         if key >= KEYS {
             return None;

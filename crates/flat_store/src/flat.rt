@@ -54,7 +54,7 @@ pub impl<'a> Store for FlatStore<'a> as FlatFiles {
     }
 
     fn held(&self, key: usize) -> bool {
-        self.image.length(key).is_some()
+        self.length(key).is_some()
     }
 
     fn length(&self, key: usize) -> Option<usize> {

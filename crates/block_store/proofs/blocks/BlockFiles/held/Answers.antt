@@ -1,11 +1,5 @@
-use mathlib.Core.Path.{ap, _∙_}
-use Rattle.std.specs.Options.{isSome}
-use Rattle.store.proofs.Facts.{length-some}
 use Rattle.block_store.proofs.Sounds.{sound-of}
 use Rattle.block_store.proofs.blocks.BlockFiles.held.Needs as need
 
 pub length-requires : need.length-requires
 length-requires c κs = record { sound = sound-of (c .args .self .now .chains) (c .args .self .now .sound) }
-
-pub returns : need.returns
-returns c = c .is-some .ensures ∙ ap isSome (c .length .ensures) ∙ length-some _
