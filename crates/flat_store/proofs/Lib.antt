@@ -1,3 +1,4 @@
 mod Places
 mod Images
 mod Sounds
+mod Marks

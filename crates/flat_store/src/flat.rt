@@ -2,12 +2,16 @@ ghost use Prim.Native.Nat.{ℕ, _≤_, _<_};
 ghost use lib.Dec.{lit≤};
 ghost use lib.ListN.{length, getD, replicate};
 ghost use mathlib.Core.Path.{_≡_};
+ghost use Rattle.std.specs.Options.{Cases};
 ghost use Rattle.std.specs.declared.option.Option.the-variants.{None};
 ghost use Rattle.store.specs.Files.{keyCount, used};
-ghost use Rattle.flat_store.specs.Images.{Sound, filesIn, unitsIn, none, blank};
+ghost use Rattle.flat_store.specs.Images.{Kept, Sound, filesIn, imageFiles, unitsIn, none, blank};
+ghost use Rattle.flat_store.specs.Taking.{Whole, Damaged};
 use crate::cells::Entry;
 use crate::cells::Image;
 use crate::cells::Slot;
+use crate::taking::list_free;
+use crate::taking::look_through;
 use store::api::Store;
 use store::keys::KEYS;
 
@@ -88,6 +92,21 @@ fn free_all(slots: &mut [Slot])
     }
 }
 
+// Lists the free slots of a whole image; a damaged one is emptied first. Answers how many they are.
+fn settle(dir: &mut [Entry], slots: &mut [Slot]) -> usize
+    requires { ⌜ length (now dir) ≡ keyCount ⌝ }
+    ensures sound { λ r. ⌜ Kept (now (dir .exit)) (now (slots .exit)) r ⌝ }
+    ensures whole { λ _. ⌜ (Whole (now (dir .entry)) (length (now (slots .entry))) → imageFiles (now (dir .exit)) (now (slots .exit)) ≡ imageFiles (now (dir .entry)) (now (slots .entry))) ⌝ }
+    ensures damaged { λ _. ⌜ ((k : ℕ) → Damaged (now (dir .entry)) (length (now (slots .entry))) k → imageFiles (now (dir .exit)) (now (slots .exit)) ≡ replicate keyCount None) ⌝ }
+{
+    if let Some(_) = look_through(dir, slots) {
+        empty_all(dir);
+        free_all(slots);
+        return slots.len();
+    }
+    list_free(slots)
+}
+
 impl<'a> FlatStore<'a> {
     // An empty store over the caller's memory, whatever that holds: each slot is one unit.
     pub fn format(dir: &'a mut [Entry; KEYS], slots: &'a mut [Slot]) -> FlatStore<'a>
@@ -97,6 +116,27 @@ impl<'a> FlatStore<'a> {
         empty_all(dir);
         free_all(slots);
         let free = slots.len();
+        FlatStore {
+            image: Image { dir, slots, free },
+        }
+    }
+
+    // The first key whose entry is damaged, of an image that may be taken up; `None` where it is whole. No entry and no
+    // file is touched.
+    pub fn damage(dir: &[Entry; KEYS], slots: &mut [Slot]) -> Option<usize>
+        ensures found { λ r. ⌜ Cases r (Whole (now (dir .entry)) (length (now (slots .entry)))) (Damaged (now (dir .entry)) (length (now (slots .entry)))) ⌝ }
+        ensures files { λ _. ⌜ imageFiles (now (dir .entry)) (now (slots .exit)) ≡ imageFiles (now (dir .entry)) (now (slots .entry)) ⌝ }
+    {
+        look_through(dir, slots)
+    }
+
+    // The store of an image that is whole. A damaged one is not trusted: its memory becomes an empty store.
+    pub fn take_up<'b: 'a>(dir: &'b mut [Entry; KEYS], slots: &'a mut [Slot]) -> FlatStore<'a>
+        ensures whole { λ r. ⌜ (Whole (now (dir .entry)) (length (now (slots .entry))) → filesIn (r .image) ≡ imageFiles (now (dir .entry)) (now (slots .entry))) ⌝ }
+        ensures damaged { λ r. ⌜ ((k : ℕ) → Damaged (now (dir .entry)) (length (now (slots .entry))) k → filesIn (r .image) ≡ replicate keyCount None) ⌝ }
+        ensures units { λ r. ⌜ unitsIn (r .image) ≡ length (now (slots .entry)) ⌝ }
+    {
+        let free = settle(dir, slots);
         FlatStore {
             image: Image { dir, slots, free },
         }

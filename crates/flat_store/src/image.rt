@@ -23,10 +23,11 @@ fn fill(slot: &mut Slot, words: &[u32])
 }
 
 // The first words of a slot.
-fn front(slots: &[Slot], slot: usize, len: usize) -> &[u32]
+pub fn front(slots: &[Slot], slot: usize, len: usize) -> &[u32]
     requires slot { ⌜ slot < length (now slots) ⌝ }
     requires len { ⌜ len ≤ longest ⌝ }
-    ensures { λ r. ⌜ now r ≡ take len (wordsAt (now (slots .entry)) slot) ⌝ }
+    ensures words { λ r. ⌜ now r ≡ take len (wordsAt (now (slots .entry)) slot) ⌝ }
+    ensures long { λ r. ⌜ length (now r) ≡ len ⌝ }
 {
     let s = &slots[slot];
     &s.words[0..len]

@@ -1,3 +1,4 @@
 pub mod cells;
 pub mod flat;
 mod image;
+mod taking;

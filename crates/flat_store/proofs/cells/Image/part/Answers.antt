@@ -16,4 +16,4 @@ returns-then-not-entry c = let m = c .args .self .now in part-none (c .args .at)
 pub returns : need.returns
 returns c =
     let m = c .args .self .now in
-    c .front .ensures ∙ part-first (m .dir .now) (m .slots .now) (m .free) (c .pre .sound) (c .args .key) (c .args .at) (omega arith) (omega arith) (not-false _ (c .if-not-entry .left))
+    c .front .ensures .words ∙ part-first (m .dir .now) (m .slots .now) (m .free) (c .pre .sound) (c .args .key) (c .args .at) (omega arith) (omega arith) (not-false _ (c .if-not-entry .left))
