@@ -41,7 +41,7 @@ fn agrees<S: Store>(store: &S, model: &Model, key: usize) -> bool {
 }
 
 // Whether they do for every key, and some that are too high.
-fn all_agree<S: Store>(store: &S, model: &Model) -> bool {
+pub fn all_agree<S: Store>(store: &S, model: &Model) -> bool {
     for key in 0..1030 {
         if !agrees(store, model, key) {
             return false;

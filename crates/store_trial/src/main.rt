@@ -5,6 +5,7 @@ mod model;
 mod pass;
 
 use crate::drive::Tally;
+use crate::drive::all_agree;
 use crate::drive::drive;
 use crate::drive::rounds;
 use crate::model::Model;
@@ -49,21 +50,45 @@ fn trial<S: Store>(
     name: &str,
     store: &mut S,
     units: usize,
-) -> Result<(), AnyError> {
+) -> Result<Model, AnyError> {
     let mut model = Model::new(rt.alloc(), S::block_len(), units)?;
     let tally = drive(store, &mut model, CALLS);
     let kept = rounds(store, &mut model);
-    report(rt, name, tally, kept)
+    report(rt, name, tally, kept)?;
+    Ok(model)
+}
+
+// The flat image is taken up again as it was left; with two keys on one slot it is refused at the second.
+fn again(
+    rt: &LibcRuntime,
+    dir: &mut [Entry; KEYS],
+    slots: &mut [Slot],
+    model: &Model,
+) -> Result<(), AnyError> {
+    let whole = FlatStore::damage(dir, slots).is_none();
+    let same = all_agree(&FlatStore::take_up(dir, slots), model);
+    println!(
+        rt,
+        "flat image: whole: {whole}, taken up as it was left: {same}"
+    )?;
+    dir[1001] = dir[1000];
+    let damage = FlatStore::damage(dir, slots);
+    println!(
+        rt,
+        "flat image: two keys on one slot, damaged at {damage:?}"
+    )?;
+    Ok(())
 }
 
 fn main(rt: LibcRuntime) -> Result<(), AnyError> {
     let mut dir = [Entry::empty(); KEYS];
     let mut slots = [Slot::blank(); 6];
     let mut flat = FlatStore::format(&mut dir, &mut slots);
-    trial(&rt, "flat image", &mut flat, 6)?;
+    let model = trial(&rt, "flat image", &mut flat, 6)?;
+    again(&rt, &mut dir, &mut slots, &model)?;
     let mut chains = [Chain::empty(); CHAINS];
     let mut blocks = [Block::blank(); 24];
     let mut chained = BlockStore::format(&mut chains, &mut blocks);
-    trial(&rt, "block store", &mut chained, 24)?;
+    let _model = trial(&rt, "block store", &mut chained, 24)?;
     Ok(())
 }
