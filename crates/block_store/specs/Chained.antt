@@ -1,7 +1,7 @@
 -- What a block store means, and what holds of it between calls.
 use Prim.Native.Nat.{ℕ, _≤_, _<_}
 use mathlib.Core.Path.{_≡_}
-use mathlib.Core.Bool.{cond}
+use mathlib.Core.Bool.{false, cond}
 use mathlib.Core.List.{List, [], map}
 use lib.Dec.{ltb}
 use lib.ListN.{length, getD, take}
@@ -15,7 +15,7 @@ use Rattle.block_store.specs.declared.cells.Chain.{Chain}
 use Rattle.block_store.specs.declared.cells.Chains.{Chains}
 
 abbrev pub blank : Block
-blank = record { next = 0; words = [] }
+blank = record { next = 0; seen = false; words = [] }
 
 abbrev pub none : Chain
 none = record { first = 0; blocks = 0; len = 0 }

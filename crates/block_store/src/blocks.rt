@@ -2,12 +2,18 @@ ghost use Prim.Native.Nat.{ℕ, _+_, _≤_, _<_};
 ghost use lib.Dec.{lit≤};
 ghost use lib.ListN.{length, replicate};
 ghost use mathlib.Core.Path.{_≡_};
+ghost use Rattle.std.specs.Options.{Cases};
 ghost use Rattle.std.specs.declared.option.Option.the-variants.{None};
 ghost use Rattle.store.specs.Files.{keyCount, used};
-ghost use Rattle.block_store.specs.Chained.{Sound, filesIn, unitsIn, none, nextIn, wordsIn};
+ghost use Rattle.block_store.specs.Chained.{Kept, Sound, chainFiles, filesIn, unitsIn, none, nextIn, wordsIn};
+ghost use Rattle.block_store.specs.Taking.{Whole, Damaged, Untouched};
+ghost use Rattle.block_store.specs.Walks.{chainCount};
 use crate::cells::Block;
 use crate::cells::Chain;
 use crate::cells::Chains;
+use crate::chains::FREE;
+use crate::taking::chain_free;
+use crate::taking::look_through;
 use store::api::Store;
 use store::keys::KEYS;
 
@@ -90,9 +96,30 @@ fn link_all(blocks: &mut [Block])
     for i in 0..blocks.len() {
         blocks[i] = Block {
             next: i + 1,
+            seen: false,
             words: [0; 4],
         };
     }
+}
+
+// Chains the free blocks of a whole image; a damaged one is emptied first.
+fn settle(dir: &mut [Chain], blocks: &mut [Block])
+    requires { ⌜ length (now dir) ≡ chainCount ⌝ }
+    ensures sound { λ _. ⌜ Kept (now (dir .exit)) (now (blocks .exit)) ⌝ }
+    ensures whole { λ _. ⌜ (Whole (now (dir .entry)) (now (blocks .entry)) → chainFiles (now (dir .exit)) (now (blocks .exit)) ≡ chainFiles (now (dir .entry)) (now (blocks .entry))) ⌝ }
+    ensures damaged { λ _. ⌜ ((k : ℕ) → Damaged (now (dir .entry)) (now (blocks .entry)) k → chainFiles (now (dir .exit)) (now (blocks .exit)) ≡ replicate keyCount None) ⌝ }
+{
+    if let Some(_) = look_through(dir, blocks) {
+        empty_all(dir);
+        link_all(blocks);
+        dir[FREE] = Chain {
+            first: 0,
+            blocks: blocks.len(),
+            len: 0,
+        };
+        return;
+    }
+    dir[FREE] = chain_free(blocks);
 }
 
 impl<'a> BlockStore<'a> {
@@ -108,6 +135,27 @@ impl<'a> BlockStore<'a> {
             blocks: blocks.len(),
             len: 0,
         };
+        BlockStore {
+            chains: Chains { dir, blocks },
+        }
+    }
+
+    // The first key whose chain is damaged, of an image that may be taken up; `None` where it is whole. No chain and no
+    // file is touched.
+    pub fn damage(dir: &[Chain; CHAINS], blocks: &mut [Block]) -> Option<usize>
+        ensures found { λ r. ⌜ Cases r (Whole (now (dir .entry)) (now (blocks .entry))) (Damaged (now (dir .entry)) (now (blocks .entry))) ⌝ }
+        ensures same { λ _. ⌜ Untouched (now (blocks .exit)) (now (blocks .entry)) ⌝ }
+    {
+        look_through(dir, blocks)
+    }
+
+    // The store of an image that is whole. A damaged one is not trusted: its memory becomes an empty store.
+    pub fn take_up<'b: 'a>(dir: &'b mut [Chain; CHAINS], blocks: &'a mut [Block]) -> BlockStore<'a>
+        ensures whole { λ r. ⌜ (Whole (now (dir .entry)) (now (blocks .entry)) → filesIn (r .chains) ≡ chainFiles (now (dir .entry)) (now (blocks .entry))) ⌝ }
+        ensures damaged { λ r. ⌜ ((k : ℕ) → Damaged (now (dir .entry)) (now (blocks .entry)) k → filesIn (r .chains) ≡ replicate keyCount None) ⌝ }
+        ensures units { λ r. ⌜ unitsIn (r .chains) ≡ length (now (blocks .entry)) ⌝ }
+    {
+        settle(dir, blocks);
         BlockStore {
             chains: Chains { dir, blocks },
         }

@@ -1,9 +1,10 @@
 // What a caller lends to a block store: a chain for each key and one of the free blocks, and blocks.
 
-// Four words of a file, and the block that goes on.
+// Four words of a file, and the block that goes on. `seen` counts only while an image is looked through.
 #[derive(Clone, Copy)]
 pub struct Block {
     pub next: usize,
+    pub seen: bool,
     pub words: [u32; 4],
 }
 
@@ -26,6 +27,7 @@ impl Block {
     pub fn blank() -> Block {
         Block {
             next: 0,
+            seen: false,
             words: [0; 4],
         }
     }

@@ -15,13 +15,13 @@ use store::keys::KEYS;
 use store::keys::LONGEST;
 
 // The words of a block.
-const WIDTH: usize = 4;
+pub const WIDTH: usize = 4;
 
 // Where the chain of the free blocks stands, past those of the keys.
-const FREE: usize = KEYS;
+pub const FREE: usize = KEYS;
 
 // How many blocks n words want.
-fn blocks_for(n: usize) -> usize
+pub fn blocks_for(n: usize) -> usize
     requires { ⌜ n ≤ longest ⌝ }
     ensures { λ r. ⌜ r ≡ cost 4 n ⌝ }
 {
@@ -44,10 +44,11 @@ fn chunk(words: &[u32], at: usize) -> [u32; 4]
 }
 
 // The first words of a block.
-fn front(blocks: &[Block], block: usize, n: usize) -> &[u32]
+pub fn front(blocks: &[Block], block: usize, n: usize) -> &[u32]
     requires block { ⌜ block < length (now blocks) ⌝ }
     requires n { ⌜ n ≤ 4 ⌝ }
-    ensures { λ r. ⌜ now r ≡ take n (wordsIn (now (blocks .entry)) block) ⌝ }
+    ensures words { λ r. ⌜ now r ≡ take n (wordsIn (now (blocks .entry)) block) ⌝ }
+    ensures long { λ r. ⌜ length (now r) ≡ n ⌝ }
 {
     let b = &blocks[block];
     &b.words[0..n]
@@ -75,6 +76,7 @@ impl<'a> Chains<'a> {
         let next = self.blocks[source.first].next;
         self.blocks[source.first] = Block {
             next: target.first,
+            seen: false,
             words,
         };
         self.dir[from] = Chain {

@@ -1,3 +1,4 @@
 pub mod blocks;
 pub mod cells;
 mod chains;
+mod taking;

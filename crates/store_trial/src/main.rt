@@ -58,8 +58,21 @@ fn trial<S: Store>(
     Ok(model)
 }
 
-// The flat image is taken up again as it was left; with two keys on one slot it is refused at the second.
-fn again(
+fn taken_up(rt: &LibcRuntime, name: &str, whole: bool, same: bool) -> Result<(), AnyError> {
+    println!(
+        rt,
+        "{name}: whole: {whole}, taken up as it was left: {same}"
+    )?;
+    Ok(())
+}
+
+fn refused(rt: &LibcRuntime, name: &str, damage: Option<usize>) -> Result<(), AnyError> {
+    println!(rt, "{name}: a file under two keys, damaged at {damage:?}")?;
+    Ok(())
+}
+
+// Each is taken up again as it was left; where two keys have one file, it is refused at the second.
+fn flat_again(
     rt: &LibcRuntime,
     dir: &mut [Entry; KEYS],
     slots: &mut [Slot],
@@ -67,17 +80,22 @@ fn again(
 ) -> Result<(), AnyError> {
     let whole = FlatStore::damage(dir, slots).is_none();
     let same = all_agree(&FlatStore::take_up(dir, slots), model);
-    println!(
-        rt,
-        "flat image: whole: {whole}, taken up as it was left: {same}"
-    )?;
+    taken_up(rt, "flat image", whole, same)?;
     dir[1001] = dir[1000];
-    let damage = FlatStore::damage(dir, slots);
-    println!(
-        rt,
-        "flat image: two keys on one slot, damaged at {damage:?}"
-    )?;
-    Ok(())
+    refused(rt, "flat image", FlatStore::damage(dir, slots))
+}
+
+fn blocks_again(
+    rt: &LibcRuntime,
+    dir: &mut [Chain; CHAINS],
+    blocks: &mut [Block],
+    model: &Model,
+) -> Result<(), AnyError> {
+    let whole = BlockStore::damage(dir, blocks).is_none();
+    let same = all_agree(&BlockStore::take_up(dir, blocks), model);
+    taken_up(rt, "block store", whole, same)?;
+    dir[1001] = dir[1000];
+    refused(rt, "block store", BlockStore::damage(dir, blocks))
 }
 
 fn main(rt: LibcRuntime) -> Result<(), AnyError> {
@@ -85,10 +103,11 @@ fn main(rt: LibcRuntime) -> Result<(), AnyError> {
     let mut slots = [Slot::blank(); 6];
     let mut flat = FlatStore::format(&mut dir, &mut slots);
     let model = trial(&rt, "flat image", &mut flat, 6)?;
-    again(&rt, &mut dir, &mut slots, &model)?;
+    flat_again(&rt, &mut dir, &mut slots, &model)?;
     let mut chains = [Chain::empty(); CHAINS];
     let mut blocks = [Block::blank(); 24];
     let mut chained = BlockStore::format(&mut chains, &mut blocks);
-    let _model = trial(&rt, "block store", &mut chained, 24)?;
+    let model = trial(&rt, "block store", &mut chained, 24)?;
+    blocks_again(&rt, &mut chains, &mut blocks, &model)?;
     Ok(())
 }

@@ -29,5 +29,5 @@ returns c =
     let nx = nextIn (m .blocks .now) in
     let first = chainOf m (c .args .key) .first in
     let e : c .loop-i .i ≡ c .args .at = omega arith in
-    c .front .ensures
+    c .front .ensures .words
     ∙ part-of (m .dir .now) (m .blocks .now) (c .pre .sound) (c .args .key) (c .args .at) (c .loop-i .block) (c .min .result) (omega arith) (omega arith) (c .loop-i .inv ∙ ap (λ n. walk nx n first) e) (c .min .ensures)

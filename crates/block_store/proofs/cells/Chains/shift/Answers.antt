@@ -1,8 +1,10 @@
 use Prim.Native.Nat.{_-_, _+_}
 use mathlib.Core.Path.{_≡_, refl, ap, _∙_}
+use mathlib.Core.Bool.{false}
 use native.Mathlib.Omega.{arith}
 use Rattle.std.proofs.shelf.Lists.{length-set}
 use Rattle.block_store.specs.Chained.{chainOf}
+use Rattle.block_store.specs.declared.cells.Block.{Block}
 use Rattle.block_store.proofs.ChainFacts.{two-le, first-in, at-from, at-to, at-other, shift-linked, shift-other, shift-content}
 use Rattle.block_store.proofs.cells.Chains.shift.Needs as need
 
@@ -28,16 +30,17 @@ returns c =
     let bs = m .blocks .now in
     let f = c .args .from in
     let t = c .args .to in
+    let blk : Block = record { next = chainOf m t .first; seen = false; words = c .args .words } in
     let less : chainOf m f .blocks - 1 + 1 ≡ chainOf m f .blocks = omega (arith, c .pre .some) in
     record {
-      linked = shift-linked dir bs f t _ _ _ (c .pre .linked) (c .pre .from) (c .pre .to) (c .pre .apart) (c .pre .some) refl (c .pre .words) refl less refl refl;
+      linked = shift-linked dir bs f t _ _ blk (c .pre .linked) (c .pre .from) (c .pre .to) (c .pre .apart) (c .pre .some) refl (c .pre .words) refl less refl refl;
       others = λ j p q jl. (
-        at-other dir bs f t _ _ _ (c .pre .linked) (c .pre .from) (c .pre .to) (c .pre .apart) (c .pre .some) refl (c .pre .words) refl less refl refl j p q,
-        shift-other dir bs f t _ _ _ (c .pre .linked) (c .pre .from) (c .pre .to) (c .pre .apart) (c .pre .some) refl (c .pre .words) refl less refl refl j p q jl,
+        at-other dir bs f t _ _ blk (c .pre .linked) (c .pre .from) (c .pre .to) (c .pre .apart) (c .pre .some) refl (c .pre .words) refl less refl refl j p q,
+        shift-other dir bs f t _ _ blk (c .pre .linked) (c .pre .from) (c .pre .to) (c .pre .apart) (c .pre .some) refl (c .pre .words) refl less refl refl j p q jl,
       );
-      less = ap (λ e. e .blocks + 1) (at-from dir bs f t _ _ _ (c .pre .linked) (c .pre .from) (c .pre .to) (c .pre .apart) (c .pre .some) refl (c .pre .words) refl less refl refl) ∙ less;
-      more = ap (λ e. e .blocks) (at-to dir bs f t _ _ _ (c .pre .linked) (c .pre .from) (c .pre .to) (c .pre .apart) (c .pre .some) refl (c .pre .words) refl less refl refl);
-      len = ap (λ e. e .len) (at-to dir bs f t _ _ _ (c .pre .linked) (c .pre .from) (c .pre .to) (c .pre .apart) (c .pre .some) refl (c .pre .words) refl less refl refl);
-      content = shift-content dir bs f t _ _ _ (c .pre .linked) (c .pre .from) (c .pre .to) (c .pre .apart) (c .pre .some) refl (c .pre .words) refl less refl refl;
+      less = ap (λ e. e .blocks + 1) (at-from dir bs f t _ _ blk (c .pre .linked) (c .pre .from) (c .pre .to) (c .pre .apart) (c .pre .some) refl (c .pre .words) refl less refl refl) ∙ less;
+      more = ap (λ e. e .blocks) (at-to dir bs f t _ _ blk (c .pre .linked) (c .pre .from) (c .pre .to) (c .pre .apart) (c .pre .some) refl (c .pre .words) refl less refl refl);
+      len = ap (λ e. e .len) (at-to dir bs f t _ _ blk (c .pre .linked) (c .pre .from) (c .pre .to) (c .pre .apart) (c .pre .some) refl (c .pre .words) refl less refl refl);
+      content = shift-content dir bs f t _ _ blk (c .pre .linked) (c .pre .from) (c .pre .to) (c .pre .apart) (c .pre .some) refl (c .pre .words) refl less refl refl;
       units = length-set bs (chainOf m f .first) _;
     }
