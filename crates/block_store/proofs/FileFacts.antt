@@ -14,7 +14,7 @@ use Rattle.std.proofs.shelf.Lists.{getD-set-same, getD-set-other, getD-past, ge
 use Rattle.std.proofs.shelf.Sums.{sumBy-cons, sumBy-more}
 use Rattle.std.proofs.shelf.Tests.{cases-eq, cases-lt, cond-true, cond-false, lt-ltb, le-ltb}
 use Rattle.store.specs.Files.{File, Files, keyCount, longest, cost, fileAt, unitsOf, used, moved, lengthOf, wordsOf}
-use Rattle.store.proofs.Facts.{used-set, moved-yes}
+use Rattle.store.proofs.Facts.{used-set, part-none}
 use Rattle.block_store.specs.Walks.{chainCount, walk, content}
 use Rattle.block_store.specs.Chained.{blank, none, nextIn, wordsIn, chainAt, firstIn, blocksIn, chainContent, chainFile, chainFiles, Linked, Full, Kept}
 use Rattle.block_store.specs.declared.cells.Block.{Block}
@@ -181,14 +181,11 @@ module _ (dir : List Chain) (bs : List Block) (kept : Kept dir bs) where
             let full = kept .1 k kl some in
             let l = length-file bs (kept .0 .2) (chainAt dir k) (kept .1 k kl) (ranged k (omega arith)) some in
             sym (ap (λ f. take 4 (drop (at * 4) (wordsOf f))) (file-some dir bs (kept .0) k kl some) ∙ ap (take 4) (drop-all (at * 4) _ (omega (arith, full, l)))))
-        | inr off ↦ part-none at _ (file-none dir bs (kept .0) k kl off)
+        | inr off ↦ part-none 4 (at * 4) _ (file-none dir bs (kept .0) k kl off)
       ]
-    where
-      part-none : (at : ℕ) (f : File) → f ≡ None → [] ≡ take 4 (drop (at * 4) (wordsOf f))
-      part-none at f e = sym (ap (λ (g : File). take 4 (drop (at * 4) (wordsOf g))) e ∙ ap (take 4) (drop-all (at * 4) [] (omega arith)))
 
   pub part-high : (k at : ℕ) → keyCount ≤ k → [] ≡ take 4 (drop (at * 4) (wordsOf (fileAt (chainFiles dir bs) k)))
-  part-high k at h = sym (ap (λ (g : File). take 4 (drop (at * 4) (wordsOf g))) (file-past dir bs (kept .0) k h) ∙ ap (take 4) (drop-all (at * 4) [] (omega arith)))
+  part-high k at h = part-none 4 (at * 4) _ (file-past dir bs (kept .0) k h)
 
 pub empty-file : (bs : List Block) (e : Chain) → e .blocks ≤ 0 → chainFile bs e ≡ None
 empty-file bs e h = cond-false _ (Some (take (e .len) (chainContent bs e))) None (le-ltb 0 _ h)
@@ -199,16 +196,6 @@ whole-file bs e ws some h = cond-true _ _ None (lt-ltb 0 _ some) ∙ ap Some h
 -- the free blocks after a clear
 pub clear-free : (dir dir′ : List Chain) (bs bs′ : List Block) (k : ℕ) → Kept dir bs → Kept dir′ bs′ → k < keyCount → chainFiles dir′ bs′ ≡ set (chainFiles dir bs) k None → length bs′ ≡ length bs → blocksIn dir′ keyCount ≡ blocksIn dir keyCount + blocksIn dir k
 clear-free dir dir′ bs bs′ k kept kept′ kl e l = omega (arith, ap (used 4) e, clear-used dir bs kept k kl, used-blocks dir′ bs′ kept′)
-
--- a move, after its target was cleared
-pub carried-files : (dir : List Chain) (bs : List Block) → Linked dir bs → (from to : ℕ) → from < keyCount → to < keyCount → (from ≡ to → ⊥) → 0 < blocksIn dir from → (gs : Files) → gs ≡ set (chainFiles dir bs) to None
-    → set (set gs to (fileAt gs from)) from None ≡ moved (chainFiles dir bs) from to
-carried-files dir bs linked from to fl tl ne some gs e =
-    let fs = chainFiles dir bs in
-    ap (λ hs. set (set hs to (fileAt hs from)) from None) e
-    ∙ ap (λ f. set (set (set fs to None) to f) from None) (getD-set-other fs to from None None ne)
-    ∙ ap (λ hs. set hs from None) (set-set fs to None (fileAt fs from))
-    ∙ moved-yes fs from to (ap isSome (file-some dir bs linked from fl some)) tl ne
 
 -- a file in parts of four words
 take-append : (n : ℕ) (p q : List ℕ) → take n (p ++ q) ≡ take n p ++ take (n - length p) q

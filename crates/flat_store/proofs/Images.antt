@@ -354,19 +354,6 @@ module _ (dir : List Entry) (ss : List Slot) (free : ℕ) (kept : Kept dir ss fr
       let z : at * 32 ≡ 0 = omega arith in
       sym (ap (λ (n : ℕ). take 32 (drop n (wordsOf (fileAt (imageFiles dir ss) k)))) z ∙ take-all 32 _ (short-file k kl) ∙ ap wordsOf (file-held k kl on))
 
-pub part-none : (at : ℕ) (f : File) → f ≡ None → [] ≡ take 32 (drop (at * 32) (wordsOf f))
-part-none at f e = sym (ap (λ (g : File). take 32 (drop (at * 32) (wordsOf g))) e ∙ ap (take 32) (drop-all (at * 32) [] (omega arith)))
-
--- a move, after its target was cleared
-module _ (dir : List Entry) (ss : List Slot) (free from to : ℕ) (kept : Kept dir ss free) (fl : from < keyCount) (tl : to < keyCount) (ne : from ≡ to → ⊥) (on : entryAt dir from .held ≡ true) where
-  pub carried-files : (gs : Files) → gs ≡ set (imageFiles dir ss) to None → set (set gs to (fileAt gs from)) from None ≡ moved (imageFiles dir ss) from to
-  carried-files gs e =
-      let fs = imageFiles dir ss in
-      ap (λ hs. set (set hs to (fileAt hs from)) from None) e
-      ∙ ap (λ f. set (set (set fs to None) to f) from None) (getD-set-other fs to from None None ne)
-      ∙ ap (λ hs. set hs from None) (set-set fs to None (fileAt fs from))
-      ∙ moved-yes fs from to (ap isSome (file-held dir ss free kept from fl on)) tl ne
-
 pub still-held : (dir dir′ : List Entry) (ss ss′ : List Slot) (free free′ from to : ℕ) → Kept dir ss free → Kept dir′ ss′ free′ → from < keyCount → (from ≡ to → ⊥) → imageFiles dir′ ss′ ≡ set (imageFiles dir ss) to None → entryAt dir from .held ≡ true → entryAt dir′ from .held ≡ true
 still-held dir dir′ ss ss′ free free′ from to kept kept′ fl ne e on = go (entryAt dir′ from .held) refl
   where

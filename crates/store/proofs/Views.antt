@@ -133,3 +133,18 @@ admits-sides b u fs p s ws long low =
     ap (λ (t : Bool). leb (length ws) longest && (t && leb (used b (set fs (keyOf p s) (Some ws))) u)) (lt-ltb _ _ (key-low p s low))
     ∙ ap (λ gs. leb (length ws) longest && leb (used b gs) u)
     (all-sides (set fs (keyOf p s) (Some ws)) (length-set fs (keyOf p s) (Some ws) ∙ long) ∙ ap listed (set-view fs long p low s (Some ws)))
+
+-- The same of what a call leaves, at a key that is a side's.
+module _ (fs gs : Files) (long : length fs ≡ keyCount) (p : ℕ) (low : p < pathCount) where
+  pub after-set : (k : ℕ) (s : Side) (f : File) → k ≡ keyOf p s → gs ≡ set fs k f → sidesAt gs ≡ change p (withSide s f) (sidesAt fs)
+  after-set k s f e is = ap sidesAt (is ∙ ap (λ (x : ℕ). set fs x f) e) ∙ set-view fs long p low s f
+
+  pub after-move : (k l : ℕ) (s t : Side) → k ≡ keyOf p s → l ≡ keyOf p t → gs ≡ moved fs k l → sidesAt gs ≡ change p (carried s t) (sidesAt fs)
+  after-move k l s t e f is = ap sidesAt (is ∙ ap (λ (x : ℕ). moved fs x l) e ∙ ap (moved fs (keyOf p s)) f) ∙ moved-view fs long p low s t
+
+  pub after-put : (k : ℕ) (s : Side) (ws : List ℕ) (r : Bool) → k ≡ keyOf p s → gs ≡ cond r (set fs k (Some ws)) fs → sidesAt gs ≡ cond r (change p (withSide s (Some ws)) (sidesAt fs)) (sidesAt fs)
+  after-put k s ws true e is = after-set k s (Some ws) e is
+  after-put k s ws false e is = ap sidesAt is
+
+  pub put-answer : (b u k : ℕ) (s : Side) (ws : List ℕ) (r : Bool) → k ≡ keyOf p s → r ≡ admits b u fs k ws → r ≡ admitsSide b u (sidesAt fs) p s ws
+  put-answer b u k s ws r e is = is ∙ ap (λ (x : ℕ). admits b u fs x ws) e ∙ admits-sides b u fs p s ws long low

@@ -1,10 +1,11 @@
 use Prim.Native.Nat.{_<_}
 use mathlib.Core.Path.{_≡_, refl, ap, _∙_}
 use native.Mathlib.Omega.{arith}
+use Rattle.std.specs.Options.{isSome}
 use Rattle.store.specs.Files.{keyCount}
-use Rattle.store.proofs.Facts.{moved-empty, moved-high, moved-onto}
+use Rattle.store.proofs.Facts.{moved-empty, moved-high, moved-onto, moved-cleared}
 use Rattle.block_store.specs.Chained.{filesIn}
-use Rattle.block_store.proofs.FileFacts.{file-past, file-none, carried-files}
+use Rattle.block_store.proofs.FileFacts.{file-past, file-none, file-some}
 use Rattle.block_store.proofs.cells.Chains.carry.Needs as need
 
 pub returns-then-from-ge-KEYS : need.returns-then-from-ge-KEYS
@@ -60,6 +61,6 @@ returns c =
       sound = c .rename .ensures .sound;
       files =
           c .rename .ensures .files
-          ∙ carried-files (m .dir .now) (m .blocks .now) (c .pre .sound .0) (c .args .from) (c .args .to) fl tl (c .if-from-to .left) (omega (arith, c .if-self-from-eq0 .left)) (filesIn (c .clear .last .self)) (c .clear .ensures .files);
+          ∙ moved-cleared (filesIn m) (filesIn (c .clear .last .self)) (c .args .from) (c .args .to) (ap isSome (file-some (m .dir .now) (m .blocks .now) (c .pre .sound .0) (c .args .from) fl (omega (arith, c .if-self-from-eq0 .left)))) tl (c .if-from-to .left) (c .clear .ensures .files);
       units = c .rename .ensures .units ∙ c .clear .ensures .units;
     }

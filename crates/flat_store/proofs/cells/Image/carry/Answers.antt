@@ -1,10 +1,11 @@
 use Prim.Native.Nat.{_<_}
 use mathlib.Core.Path.{_≡_, refl, sym, ap, _∙_}
 use native.Mathlib.Omega.{arith}
+use Rattle.std.specs.Options.{isSome}
 use Rattle.store.specs.Files.{keyCount}
-use Rattle.store.proofs.Facts.{moved-empty}
+use Rattle.store.proofs.Facts.{moved-empty, moved-cleared}
 use Rattle.flat_store.specs.Images.{filesIn}
-use Rattle.flat_store.proofs.Images.{file-past, file-empty, carried-files, still-held}
+use Rattle.flat_store.proofs.Images.{file-past, file-empty, file-held, still-held}
 use Rattle.flat_store.proofs.cells.Image.carry.Needs as need
 
 pub returns-then-from-ge-KEYS : need.returns-then-from-ge-KEYS
@@ -49,6 +50,6 @@ returns c =
       sound = c .rename .ensures .sound;
       files =
           c .rename .ensures .files
-          ∙ carried-files (m .dir .now) (m .slots .now) (m .free) (c .args .from) (c .args .to) (c .pre .sound) fl tl (c .if-from-to .left) (c .if-not-self-from .left) (filesIn (c .clear .last .self)) (c .clear .ensures .files);
+          ∙ moved-cleared (filesIn m) (filesIn (c .clear .last .self)) (c .args .from) (c .args .to) (ap isSome (file-held (m .dir .now) (m .slots .now) (m .free) (c .pre .sound) (c .args .from) fl (c .if-not-self-from .left))) tl (c .if-from-to .left) (c .clear .ensures .files);
       units = c .rename .ensures .units ∙ c .clear .ensures .units;
     }
