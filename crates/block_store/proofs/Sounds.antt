@@ -14,7 +14,7 @@ use Rattle.block_store.specs.Chained.{Linked, Kept, Sound, chainFiles}
 use Rattle.block_store.proofs.FileFacts.{files-long, used-blocks}
 use Rattle.block_store.specs.declared.cells.Block.{Block}
 use Rattle.block_store.specs.declared.cells.Chain.{Chain}
-use Rattle.block_store.specs.declared.cells.Chains.{Chains}
+use Rattle.block_store.specs.declared.chains.Chains.{Chains}
 
 apart-prop : (nx hd n : ℕ → ℕ) → IsProp (Apart nx hd n)
 apart-prop nx hd n =

@@ -12,7 +12,7 @@ use Rattle.store.specs.Files.{File, Files, keyCount, longest, cost}
 use Rattle.block_store.specs.Walks.{chainCount, content, Within, Apart}
 use Rattle.block_store.specs.declared.cells.Block.{Block}
 use Rattle.block_store.specs.declared.cells.Chain.{Chain}
-use Rattle.block_store.specs.declared.cells.Chains.{Chains}
+use Rattle.block_store.specs.declared.chains.Chains.{Chains}
 
 abbrev pub blank : Block
 blank = record { next = 0; seen = false; words = [] }

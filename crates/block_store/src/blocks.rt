@@ -8,10 +8,10 @@ ghost use Rattle.store.specs.Files.{keyCount, used};
 ghost use Rattle.block_store.specs.Chained.{Kept, Sound, chainFiles, filesIn, unitsIn, none, nextIn, wordsIn};
 ghost use Rattle.block_store.specs.Taking.{Whole, Damaged, Untouched};
 ghost use Rattle.block_store.specs.Walks.{chainCount};
+use crate::calls::FREE;
 use crate::cells::Block;
 use crate::cells::Chain;
-use crate::cells::Chains;
-use crate::chains::FREE;
+use crate::chains::Chains;
 use crate::taking::chain_free;
 use crate::taking::look_through;
 use store::api::Store;
@@ -80,11 +80,7 @@ fn empty_all(dir: &mut [Chain])
     ensures { λ _. ⌜ now (dir .exit) ≡ replicate (length (now (dir .entry))) none ⌝ }
 {
     for i in 0..dir.len() {
-        dir[i] = Chain {
-            first: 0,
-            blocks: 0,
-            len: 0,
-        };
+        dir[i] = Chain::EMPTY;
     }
 }
 

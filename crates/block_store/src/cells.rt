@@ -16,29 +16,18 @@ pub struct Chain {
     pub len: usize,
 }
 
-// The chain of each key and, last, that of the free blocks; and the blocks.
-#[derive(Drop)]
-pub struct Chains<'a> {
-    pub dir: &'a mut [Chain],
-    pub blocks: &'a mut [Block],
-}
-
 impl Block {
-    pub fn blank() -> Block {
-        Block {
-            next: 0,
-            seen: false,
-            words: [0; 4],
-        }
-    }
+    pub const BLANK: Block = Block {
+        next: 0,
+        seen: false,
+        words: [0; 4],
+    };
 }
 
 impl Chain {
-    pub fn empty() -> Chain {
-        Chain {
-            first: 0,
-            blocks: 0,
-            len: 0,
-        }
-    }
+    pub const EMPTY: Chain = Chain {
+        first: 0,
+        blocks: 0,
+        len: 0,
+    };
 }

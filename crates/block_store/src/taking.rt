@@ -8,11 +8,11 @@ ghost use Rattle.store.specs.Files.{keyCount};
 ghost use Rattle.block_store.specs.Walks.{chainCount};
 ghost use Rattle.block_store.specs.Chained.{nextIn, wordsIn, Full};
 ghost use Rattle.block_store.specs.Taking.{Whole, Damaged, seenIn, unseen, Fresh, Marked, Untouched, Marks, Unmarked};
+use crate::calls::WIDTH;
+use crate::calls::blocks_for;
+use crate::calls::front;
 use crate::cells::Block;
 use crate::cells::Chain;
-use crate::chains::WIDTH;
-use crate::chains::blocks_for;
-use crate::chains::front;
 use store::keys::KEYS;
 use store::keys::LONGEST;
 

@@ -14,7 +14,7 @@ use Rattle.flat_store.specs.Images.{Kept, Sound, imageFiles, filesIn, unitsIn,
 use Rattle.flat_store.proofs.Images.{keys-all, used-slots}
 use Rattle.flat_store.specs.declared.cells.Entry.{Entry}
 use Rattle.flat_store.specs.declared.cells.Slot.{Slot}
-use Rattle.flat_store.specs.declared.cells.Image.{Image}
+use Rattle.flat_store.specs.declared.image.Image.{Image}
 
 apart-prop : (on : ℕ → Bool) (at : ℕ → ℕ) (n : ℕ) → IsProp (Apart on at n)
 apart-prop on at n =

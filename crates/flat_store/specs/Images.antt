@@ -11,7 +11,7 @@ use Rattle.std.specs.shelf.Lists.{sumBy}
 use Rattle.store.specs.Files.{File, Files, keyCount, longest}
 use Rattle.flat_store.specs.declared.cells.Entry.{Entry}
 use Rattle.flat_store.specs.declared.cells.Slot.{Slot}
-use Rattle.flat_store.specs.declared.cells.Image.{Image}
+use Rattle.flat_store.specs.declared.image.Image.{Image}
 
 abbrev pub none : Entry
 none = record { held = false; slot = 0; len = 0 }

@@ -15,29 +15,17 @@ pub struct Slot {
     pub words: [u32; 32],
 }
 
-// The entries, the slots, and how many of the slots are free.
-#[derive(Drop)]
-pub struct Image<'a> {
-    pub dir: &'a mut [Entry],
-    pub slots: &'a mut [Slot],
-    pub free: usize,
-}
-
 impl Entry {
-    pub fn empty() -> Entry {
-        Entry {
-            held: false,
-            slot: 0,
-            len: 0,
-        }
-    }
+    pub const EMPTY: Entry = Entry {
+        held: false,
+        slot: 0,
+        len: 0,
+    };
 }
 
 impl Slot {
-    pub fn blank() -> Slot {
-        Slot {
-            spare: 0,
-            words: [0; 32],
-        }
-    }
+    pub const BLANK: Slot = Slot {
+        spare: 0,
+        words: [0; 32],
+    };
 }

@@ -8,8 +8,8 @@ ghost use Rattle.store.specs.Files.{keyCount, used};
 ghost use Rattle.flat_store.specs.Images.{Kept, Sound, filesIn, imageFiles, unitsIn, none, blank};
 ghost use Rattle.flat_store.specs.Taking.{Whole, Damaged};
 use crate::cells::Entry;
-use crate::cells::Image;
 use crate::cells::Slot;
+use crate::image::Image;
 use crate::taking::list_free;
 use crate::taking::look_through;
 use store::api::Store;
@@ -75,11 +75,7 @@ fn empty_all(dir: &mut [Entry])
     ensures { λ _. ⌜ now (dir .exit) ≡ replicate (length (now (dir .entry))) none ⌝ }
 {
     for i in 0..dir.len() {
-        dir[i] = Entry {
-            held: false,
-            slot: 0,
-            len: 0,
-        };
+        dir[i] = Entry::EMPTY;
     }
 }
 

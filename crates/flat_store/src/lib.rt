@@ -1,3 +1,4 @@
+mod calls;
 pub mod cells;
 pub mod flat;
 mod image;

@@ -8,9 +8,9 @@ ghost use Rattle.std.specs.shelf.Lists.{countBy};
 ghost use Rattle.store.specs.Files.{keyCount, longest};
 ghost use Rattle.flat_store.specs.Images.{blank, wordsAt, imageFiles, Fits, Kept};
 ghost use Rattle.flat_store.specs.Taking.{markable, marked, unnamed, Whole, Damaged, Marks, Free};
+use crate::calls::front;
 use crate::cells::Entry;
 use crate::cells::Slot;
-use crate::image::front;
 use store::keys::KEYS;
 use store::keys::LONGEST;
 

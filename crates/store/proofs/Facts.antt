@@ -58,6 +58,6 @@ moved-cleared fs gs from to some tl ne e =
 pub part-none : (b n : ℕ) (f : File) → f ≡ None → [] ≡ take b (drop n (wordsOf f))
 part-none b n f e = sym (ap (λ (g : File). take b (drop n (wordsOf g))) e ∙ ap (take b) (drop-all n [] (omega arith)) ∙ none b)
   where
-  none : (m : ℕ) → take {A = ℕ} m [] ≡ []
-  none zero = refl
-  none (suc m) = refl
+    none : (m : ℕ) → take {A = ℕ} m [] ≡ []
+    none zero = refl
+    none (suc m) = refl

@@ -99,13 +99,13 @@ fn blocks_again(
 }
 
 fn main(rt: LibcRuntime) -> Result<(), AnyError> {
-    let mut dir = [Entry::empty(); KEYS];
-    let mut slots = [Slot::blank(); 6];
+    let mut dir = [Entry::EMPTY; KEYS];
+    let mut slots = [Slot::BLANK; 6];
     let mut flat = FlatStore::format(&mut dir, &mut slots);
     let model = trial(&rt, "flat image", &mut flat, 6)?;
     flat_again(&rt, &mut dir, &mut slots, &model)?;
-    let mut chains = [Chain::empty(); CHAINS];
-    let mut blocks = [Block::blank(); 24];
+    let mut chains = [Chain::EMPTY; CHAINS];
+    let mut blocks = [Block::BLANK; 24];
     let mut chained = BlockStore::format(&mut chains, &mut blocks);
     let model = trial(&rt, "block store", &mut chained, 24)?;
     blocks_again(&rt, &mut chains, &mut blocks, &model)?;
