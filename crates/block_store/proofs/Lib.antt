@@ -1,0 +1,6 @@
+mod WalkFacts
+mod FileFacts
+mod ChainFacts
+mod Sounds
+mod Marks
+mod Taken

@@ -1,0 +1,5 @@
+pub mod blocks;
+mod calls;
+pub mod cells;
+mod chains;
+mod taking;

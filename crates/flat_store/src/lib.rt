@@ -1,0 +1,5 @@
+mod calls;
+pub mod cells;
+pub mod flat;
+mod image;
+mod taking;

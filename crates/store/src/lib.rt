@@ -1,0 +1,4 @@
+pub mod api;
+pub mod keys;
+pub mod paths;
+pub mod side;
