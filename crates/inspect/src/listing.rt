@@ -68,7 +68,7 @@ fn files_of(heap: Global, package: &Package, words: &[u32]) -> Result<Vec<FileLi
 }
 
 // What a package holds: a line for itself, one for each file, and one with the totals.
-pub fn listing(heap: Global, package: &Package, words: &[u32]) -> Result<String, AnyError> {
+pub(crate) fn listing(heap: Global, package: &Package, words: &[u32]) -> Result<String, AnyError> {
     let name = String::from_utf8_lossy(heap, package.name.as_bytes())?;
     let version = String::from_utf8_lossy(heap, package.version.as_bytes())?;
     let files = files_of(heap, package, words)?;

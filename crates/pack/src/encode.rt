@@ -57,7 +57,7 @@ fn push_file(words: &mut Vec<u32>, file: &Entry) -> Result<(), AllocError> {
 }
 
 // The words of the package that is described.
-pub fn encode(heap: Global, description: &Description) -> Result<Vec<u32>, AllocError> {
+pub(crate) fn encode(heap: Global, description: &Description) -> Result<Vec<u32>, AllocError> {
     let name = description.head.name.as_bytes();
     let version = description.head.version.as_bytes();
     let mut words = Vec::new(heap);

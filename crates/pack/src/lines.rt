@@ -40,7 +40,7 @@ fn file_line(heap: Global, kind: FileKind, rest: &str) -> Result<Line, Mistake> 
 }
 
 // What a line says.
-pub fn line_of(heap: Global, line: &str) -> Result<Line, Mistake> {
+pub(crate) fn line_of(heap: Global, line: &str) -> Result<Line, Mistake> {
     let line = line.trim();
     if line.is_empty() || line.starts_with('#') {
         return Ok(Line::Nothing);

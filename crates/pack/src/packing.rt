@@ -106,7 +106,7 @@ fn parse(heap: Global, text: &str) -> Result<Description, Fault> {
 }
 
 // The words of the package that a text describes.
-pub fn pack(heap: Global, text: &str) -> Result<Vec<u32>, Fault> {
+pub(crate) fn pack(heap: Global, text: &str) -> Result<Vec<u32>, Fault> {
     let description = parse(heap, text)?;
     let words = encode(heap, &description)?;
     if let Err(refusal) = read_package(words.as_slice()) {

@@ -21,7 +21,7 @@ fn between_quotes(quoted: &str) -> Option<&str> {
 }
 
 // The bytes of a content that is written in double quotes.
-pub fn content_of(heap: Global, quoted: &str) -> Result<Vec<u8>, Mistake> {
+pub(crate) fn content_of(heap: Global, quoted: &str) -> Result<Vec<u8>, Mistake> {
     let inner = between_quotes(quoted).ok_or(Mistake::NoQuotes)?;
     let mut content = Vec::new(heap);
     let mut escape = false;

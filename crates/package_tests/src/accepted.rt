@@ -7,7 +7,7 @@ use std::alloc::AllocError;
 use std::alloc::Global;
 
 // Packages within the rules.
-pub fn all(tally: &mut Tally, heap: Global) -> Result<(), AllocError> {
+pub(crate) fn all(tally: &mut Tally, heap: Global) -> Result<(), AllocError> {
     small(tally);
     tally.package(
         "the longest",

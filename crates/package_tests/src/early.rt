@@ -5,7 +5,7 @@ use std::alloc::AllocError;
 use std::alloc::Global;
 
 // Number 1: the input ends too early, at its length.
-pub fn all(tally: &mut Tally, heap: Global) -> Result<(), AllocError> {
+pub(crate) fn all(tally: &mut Tally, heap: Global) -> Result<(), AllocError> {
     tally.refused("no words", &[], at(1, 0, 2));
     tally.refused("the head alone", &[0x1000_0102], at(1, 1, 2));
     tally.refused("no version", &[0x1000_0102, 0x2261_6200], at(1, 2, 2));

@@ -7,7 +7,7 @@ use std::alloc::AllocError;
 use std::alloc::Global;
 
 // Number 3: a length, a count or a byte outside its limits.
-pub fn all(tally: &mut Tally, heap: Global) -> Result<(), AllocError> {
+pub(crate) fn all(tally: &mut Tally, heap: Global) -> Result<(), AllocError> {
     lengths(tally);
     counts(tally);
     bytes(tally);

@@ -3,7 +3,7 @@ use crate::tally::Tally;
 use crate::tally::at;
 
 // Names alone.
-pub fn all(tally: &mut Tally) {
+pub(crate) fn all(tally: &mut Tally) {
     good(tally);
     cut(tally);
     heads(tally);

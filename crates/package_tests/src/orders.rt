@@ -7,7 +7,7 @@ use std::alloc::AllocError;
 use std::alloc::Global;
 
 // Number 4, a path not above the one before, and number 5, a wrong count in the end word.
-pub fn all(tally: &mut Tally, heap: Global) -> Result<(), AllocError> {
+pub(crate) fn all(tally: &mut Tally, heap: Global) -> Result<(), AllocError> {
     paths(tally);
     ends(tally);
     // the 24th file of the longest stands at 13 + 23 x 33

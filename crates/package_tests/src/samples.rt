@@ -38,7 +38,7 @@ fn push_full_file(words: &mut Vec<u32>, path: u8) -> Result<(), AllocError> {
 }
 
 // The longest package up to its end word: 13 words, then 24 files of 33 words at the paths 232 to 255.
-pub fn longest_body(heap: Global) -> Result<Vec<u32>, AllocError> {
+pub(crate) fn longest_body(heap: Global) -> Result<Vec<u32>, AllocError> {
     let mut words = LONG_HEAD.to_vec(heap)?;
     for path in 232..=255u8 {
         push_full_file(&mut words, path)?;
@@ -47,19 +47,19 @@ pub fn longest_body(heap: Global) -> Result<Vec<u32>, AllocError> {
 }
 
 // The longest package: 13 + 24 x 33 = 805 words and the end word, which counts them.
-pub fn longest(heap: Global) -> Result<Vec<u32>, AllocError> {
+pub(crate) fn longest(heap: Global) -> Result<Vec<u32>, AllocError> {
     followed(heap, 0xf000_0325)
 }
 
 // The words of the longest package before its end word, and this word behind them.
-pub fn followed(heap: Global, last: u32) -> Result<Vec<u32>, AllocError> {
+pub(crate) fn followed(heap: Global, last: u32) -> Result<Vec<u32>, AllocError> {
     let mut words = longest_body(heap)?;
     words.push(last)?;
     Ok(words)
 }
 
 // The longest package with another word at a place.
-pub fn changed(heap: Global, place: usize, word: u32) -> Result<Vec<u32>, AllocError> {
+pub(crate) fn changed(heap: Global, place: usize, word: u32) -> Result<Vec<u32>, AllocError> {
     let mut words = longest(heap)?;
     if let Some(old) = words.get_mut(place) {
         *old = word;
@@ -68,7 +68,7 @@ pub fn changed(heap: Global, place: usize, word: u32) -> Result<Vec<u32>, AllocE
 }
 
 // The package ab 1 with so many empty files at the paths from 0 on, and no end word: 3 words, then one for each file.
-pub fn empty_files(heap: Global, count: u32) -> Result<Vec<u32>, AllocError> {
+pub(crate) fn empty_files(heap: Global, count: u32) -> Result<Vec<u32>, AllocError> {
     let mut words = [0x1000_0102u32, 0x2261_6200, 0x2131_0000].to_vec(heap)?;
     for path in 0..count {
         words.push(0x3000_0000 | path & 255)?;

@@ -84,7 +84,7 @@ fn name_refused(words: &[u32], expected: Expected) -> bool {
 }
 
 impl Tally {
-    pub fn new() -> Tally {
+    pub(crate) fn new() -> Tally {
         Tally {
             cases: 0,
             wrong: None,
@@ -99,7 +99,7 @@ impl Tally {
     }
 
     // The words are a package with this name, this version and so many files.
-    pub fn package(
+    pub(crate) fn package(
         &mut self,
         title: &'static str,
         words: &[u32],
@@ -111,17 +111,17 @@ impl Tally {
     }
 
     // The words are no package, and this is their first fault.
-    pub fn refused(&mut self, title: &'static str, words: &[u32], expected: Expected) {
+    pub(crate) fn refused(&mut self, title: &'static str, words: &[u32], expected: Expected) {
         self.note(title, package_refused(words, expected));
     }
 
     // The words are this name alone.
-    pub fn name(&mut self, title: &'static str, words: &[u32], name: &[u8]) {
+    pub(crate) fn name(&mut self, title: &'static str, words: &[u32], name: &[u8]) {
         self.note(title, is_name(words, name));
     }
 
     // The words are no name alone, and this is their first fault.
-    pub fn no_name(&mut self, title: &'static str, words: &[u32], expected: Expected) {
+    pub(crate) fn no_name(&mut self, title: &'static str, words: &[u32], expected: Expected) {
         self.note(title, name_refused(words, expected));
     }
 }

@@ -6,7 +6,7 @@ use std::alloc::AllocError;
 use std::alloc::Global;
 
 // Number 2: a word of a wrong kind, or a bit that must be zero.
-pub fn all(tally: &mut Tally, heap: Global) -> Result<(), AllocError> {
+pub(crate) fn all(tally: &mut Tally, heap: Global) -> Result<(), AllocError> {
     heads(tally);
     texts(tally);
     items(tally);
