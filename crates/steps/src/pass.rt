@@ -8,3 +8,12 @@ pub enum Pass {
     // a conffile goes
     Wipe,
 }
+
+// How files that were laid are dealt with in the end.
+#[derive(Clone, Copy, PartialEq, Eq)]
+pub enum Unwind {
+    // what was set aside returns
+    PutBack,
+    // what was set aside goes
+    Discard,
+}
