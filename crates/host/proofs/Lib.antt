@@ -1,0 +1,3 @@
+pub mod Notes
+mod Checks
+mod Lines
