@@ -20,8 +20,8 @@ use Rattle.host.specs.declared.calls.Call.{Call}
 use Rattle.host.specs.declared.line.ArgumentRow.{ArgumentRow}
 use Rattle.host.specs.declared.line.ArgumentRow.the-variants.{Version as version-of}
 use Rattle.host.specs.declared.line.Line.{Line}
-use Rattle.host.specs.Hosts.{argument-row, line}
-use Rattle.host.specs.Rows.{sound, sound-argument, argument-if, argument-rows, line-if, call-line, same-row}
+use Rattle.host.specs.Hosts.{argument-row, line, call-line}
+use Rattle.host.specs.Rows.{sound, sound-argument, argument-if, argument-rows, line-if, same-row}
 
 -- a value that passed its test, and one that did not
 pub passed : {A : Type 0} (b : Bool) (x y : A) → Some x ≡ cond b (Some y) None → (b ≡ true) × (x ≡ y)

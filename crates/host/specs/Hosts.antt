@@ -46,9 +46,10 @@ line c s = record {
   status = s;
 }
 
--- The line tells of the host's latest call.
-abbrev pub OfLatest : Meaning → ℕ → Line → Type 0
-OfLatest m s l = (c : Call) × (m .latest ≡ Some c) × (l ≡ line c s)
+-- the line of the call that there is
+abbrev pub call-line : Option Call → ℕ → Option Line
+call-line None s = None
+call-line (Some c) s = Some (line c s)
 
 -- The host ran the calls of these lines, one after the other, and gave their statuses.
 pub data Runs : Meaning → List Line → Meaning → Type 0 where
@@ -59,7 +60,7 @@ pub data Runs : Meaning → List Line → Meaning → Type 0 where
 pub record Noted (c : Call) (s : ℕ) (m m' : Meaning) (t : List Line) (n : ℕ) (t' : List Line) (n' : ℕ) : Type 0 where
   pub room : n < length t
   pub ran : Ran m c s m'
-  pub latest : OfLatest m' s (line c s)
+  pub of-latest : call-line (m' .latest) s ≡ Some (line c s)
   pub one-line : take n' t' ≡ take n t ++ line c s ∷ []
   pub one-row : t' ≡ set t n (line c s)
   pub one-more : n' ≡ n + 1

@@ -1,9 +1,11 @@
 -- Which rows tell of a call, and of which.
+use mathlib.Core.Path.{_≡_}
 use mathlib.Core.Bool.{Bool, true, false, cond, _&&_}
 use Prim.Native.Nat.{ℕ}
 use lib.Dec.{eqb}
 use Rattle.std.specs.declared.option.Option.{Option}
 use Rattle.std.specs.declared.option.Option.the-variants.{Some, None}
+use Rattle.std.specs.Orderings.{Decides}
 use Rattle.std.specs.shelf.Text.{sameBytes}
 use Rattle.base.specs.Texts.{name-row, version-row}
 use Rattle.base.specs.declared.texts.ShortText.{ShortText}
@@ -35,10 +37,6 @@ argument-rows (Some a) = Some (argument-row a)
 abbrev pub line-if : Line → Option Line
 line-if l = cond (sound l) (Some l) None
 
-abbrev pub call-line : Option Call → ℕ → Option Line
-call-line None s = None
-call-line (Some c) s = Some (line c s)
-
 abbrev pub same-row : ShortText → ShortText → Bool
 same-row a b = sameBytes (a .bytes) (b .bytes)
 
@@ -65,3 +63,7 @@ same-call l k =
 -- The line tells of the call c.
 abbrev pub tells : Line → Call → Bool
 tells l c = same-call l (line c (l .status))
+
+-- The line tells of a call exactly where it is that call's line, with its own status.
+abbrev pub Tells-its-call : Type 0
+Tells-its-call = (l : Line) (c : Call) → Decides (tells l c) (l ≡ line c (l .status))

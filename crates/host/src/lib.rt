@@ -1,6 +1,7 @@
 // Script calls, what a script host is, and the trace of what was run.
 mod calls;
 mod hosts;
+mod laws;
 mod line;
 mod numbers;
 mod rows;
@@ -17,6 +18,7 @@ pub use calls::ScriptEq;
 pub use calls::ScriptPartialEq;
 pub use hosts::Host;
 pub use hosts::works;
+pub use laws::tells_its_call;
 pub use line::ArgumentRow;
 pub use line::Line;
 pub use line::Status;

@@ -1,7 +1,8 @@
 ghost use mathlib.Core.Path.{_≡_};
 ghost use lib.Dec.{eqb};
 ghost use Rattle.host.specs.Calls.{script-number, action-number};
-ghost use Rattle.host.specs.Rows.{argument-if, argument-rows, line-if, call-line, sound, same-row, same-argument, same-call, tells};
+ghost use Rattle.host.specs.Hosts.{call-line};
+ghost use Rattle.host.specs.Rows.{argument-if, argument-rows, line-if, sound, same-row, same-argument, same-call, tells};
 use crate::calls::Action;
 use crate::calls::Argument;
 use crate::calls::Call;

@@ -1,4 +1,7 @@
 ghost use mathlib.Core.Path.{_≡_};
+ghost use mathlib.Core.List.{[], _∷_, _++_};
+ghost use Prim.Native.Nat.{_+_, _<_};
+ghost use lib.ListN.{length, set, take};
 ghost use Rattle.host.specs.Hosts.{line, argument-row, Asked, Keeps};
 use crate::calls::Argument;
 use crate::calls::Call;
@@ -36,6 +39,18 @@ impl Line {
     }
 }
 
+// One line more behind the first `used`.
+fn note(trace: &mut [Line], used: &mut usize, line: Line)
+    requires { ⌜ now used < length (now trace) ⌝ }
+    ensures grown { λ _. ⌜ take (now (used .exit)) (now (trace .exit)) ≡ take (now (used .entry)) (now (trace .entry)) ++ (line ∷ []) ⌝ }
+    ensures row { λ _. ⌜ now (trace .exit) ≡ set (now (trace .entry)) (now (used .entry)) line ⌝ }
+    ensures counted { λ _. ⌜ now (used .exit) ≡ now (used .entry) + 1 ⌝ }
+{
+    let n = *used;
+    trace[n] = line;
+    *used = n + 1;
+}
+
 // Runs the call and adds its line behind the first `used` lines of the trace. Where there is no room for a line,
 // nothing is run and nothing changes.
 pub fn ask<H: Host>(
@@ -47,12 +62,11 @@ pub fn ask<H: Host>(
     ensures asked { λ r. ⌜ Asked call r (meaning (now (host .entry))) (meaning (now (host .exit))) (now (trace .entry)) (now (used .entry)) (now (trace .exit)) (now (used .exit)) ⌝ }
     ensures kept { λ r. ⌜ Keeps r (now (host .entry)) (now (host .exit)) ⌝ }
 {
-    let n = *used;
-    if n >= trace.len() {
+    if *used >= trace.len() {
         return None;
     }
     let status = host.run(call);
-    trace[n] = Line::new(call, status);
-    *used = n + 1;
+    let line = Line::new(call, status);
+    note(trace, used, line);
     Some(status)
 }
