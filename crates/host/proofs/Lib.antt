@@ -1,0 +1,4 @@
+pub mod Notes
+mod Checks
+mod Lines
+mod Tells

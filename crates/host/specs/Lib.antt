@@ -1,0 +1,4 @@
+pub mod Calls
+pub mod Hosts
+pub mod Rows
+pub mod Lines
