@@ -26,7 +26,7 @@ pub struct Samples {
     pub upgrade: Call,
 }
 
-pub fn sample_calls() -> Option<Samples> {
+pub(crate) fn sample_calls() -> Option<Samples> {
     let new = Version::new(b"13~rc1")?;
     Some(Samples {
         configure: call(Script::Postinst, Action::Configure, Argument::Null)?,

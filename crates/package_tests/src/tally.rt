@@ -28,7 +28,7 @@ impl Expected {
     }
 }
 
-pub const fn at(number: u8, place: usize, layer: u8) -> Expected {
+pub(crate) const fn at(number: u8, place: usize, layer: u8) -> Expected {
     Expected {
         number,
         place,
