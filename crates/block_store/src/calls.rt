@@ -21,7 +21,7 @@ pub const WIDTH: usize = 4;
 pub const FREE: usize = KEYS;
 
 // How many blocks n words want.
-pub fn blocks_for(n: usize) -> usize
+pub(crate) fn blocks_for(n: usize) -> usize
     requires { ⌜ n ≤ longest ⌝ }
     ensures { λ r. ⌜ r ≡ cost 4 n ⌝ }
 {
@@ -44,7 +44,7 @@ fn chunk(words: &[u32], at: usize) -> [u32; 4]
 }
 
 // The first words of a block.
-pub fn front(blocks: &[Block], block: usize, n: usize) -> &[u32]
+pub(crate) fn front(blocks: &[Block], block: usize, n: usize) -> &[u32]
     requires block { ⌜ block < length (now blocks) ⌝ }
     requires n { ⌜ n ≤ 4 ⌝ }
     ensures words { λ r. ⌜ now r ≡ take n (wordsIn (now (blocks .entry)) block) ⌝ }
@@ -91,7 +91,7 @@ impl<'a> Chains<'a> {
         };
     }
 
-    pub fn clear(&mut self, key: usize)
+    pub(crate) fn clear(&mut self, key: usize)
         requires sound { ⌜ Sound (now self) ⌝ }
         ensures sound { λ _. ⌜ Sound (now (self .exit)) ⌝ }
         ensures files { λ _. ⌜ filesIn (now (self .exit)) ≡ set (filesIn (now (self .entry))) key None ⌝ }
@@ -127,7 +127,7 @@ impl<'a> Chains<'a> {
         }
     }
 
-    pub fn put(&mut self, key: usize, words: &[u32]) -> bool
+    pub(crate) fn put(&mut self, key: usize, words: &[u32]) -> bool
         requires sound { ⌜ Sound (now self) ⌝ }
         ensures sound { λ _. ⌜ Sound (now (self .exit)) ⌝ }
         ensures answer { λ r. ⌜ r ≡ admits 4 (unitsIn (now (self .entry))) (filesIn (now (self .entry))) key (now (words .entry)) ⌝ }
@@ -166,7 +166,7 @@ impl<'a> Chains<'a> {
         self.dir[from] = Chain::EMPTY;
     }
 
-    pub fn carry(&mut self, from: usize, to: usize)
+    pub(crate) fn carry(&mut self, from: usize, to: usize)
         requires sound { ⌜ Sound (now self) ⌝ }
         ensures sound { λ _. ⌜ Sound (now (self .exit)) ⌝ }
         ensures files { λ _. ⌜ filesIn (now (self .exit)) ≡ moved (filesIn (now (self .entry))) from to ⌝ }
@@ -188,7 +188,7 @@ impl<'a> Chains<'a> {
         self.rename(from, to);
     }
 
-    pub fn length(&self, key: usize) -> Option<usize>
+    pub(crate) fn length(&self, key: usize) -> Option<usize>
         requires sound { ⌜ Sound (now self) ⌝ }
         ensures is { λ r. ⌜ r ≡ lengthOf (fileAt (filesIn (now (self .entry))) key) ⌝ }
         ensures held { λ r. ⌜ isSome r ≡ isSome (fileAt (filesIn (now (self .entry))) key) ⌝ }
@@ -204,7 +204,7 @@ impl<'a> Chains<'a> {
         }
     }
 
-    pub fn part(&self, key: usize, at: usize) -> &[u32]
+    pub(crate) fn part(&self, key: usize, at: usize) -> &[u32]
         requires sound { ⌜ Sound (now self) ⌝ }
         ensures { λ r. ⌜ now r ≡ take 4 (drop (at * 4) (wordsOf (fileAt (filesIn (now (self .entry))) key))) ⌝ }
     {

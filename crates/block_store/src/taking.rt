@@ -80,7 +80,7 @@ fn mark(blocks: &mut [Block], chain: Chain) -> bool
 }
 
 // The first key whose chain is damaged. Chains and files stay as they are, and the marks tell the blocks that no file has.
-pub fn look_through(dir: &[Chain], blocks: &mut [Block]) -> Option<usize>
+pub(crate) fn look_through(dir: &[Chain], blocks: &mut [Block]) -> Option<usize>
     requires { ⌜ length (now dir) ≡ chainCount ⌝ }
     ensures found { λ r. ⌜ Cases r (Whole (now (dir .entry)) (now (blocks .entry))) (Damaged (now (dir .entry)) (now (blocks .entry))) ⌝ }
     ensures marks { λ r. ⌜ Cases r (Marks (now (dir .entry)) (now (blocks .exit)) keyCount) (λ _. Unit {0}) ⌝ }
@@ -100,7 +100,7 @@ pub fn look_through(dir: &[Chain], blocks: &mut [Block]) -> Option<usize>
 }
 
 // Chains the blocks without a mark, each to the one before it.
-pub fn chain_free(blocks: &mut [Block]) -> Chain
+pub(crate) fn chain_free(blocks: &mut [Block]) -> Chain
     ensures kept { λ _. ⌜ ((q : ℕ) → seenIn (now (blocks .entry)) q ≡ true → (nextIn (now (blocks .exit)) q ≡ nextIn (now (blocks .entry)) q) × (wordsIn (now (blocks .exit)) q ≡ wordsIn (now (blocks .entry)) q)) ⌝ }
     ensures wide { λ _. ⌜ ((q : ℕ) → q < length (now (blocks .entry)) → seenIn (now (blocks .entry)) q ≡ false → length (wordsIn (now (blocks .exit)) q) ≡ 4) ⌝ }
     ensures free { λ r. ⌜ Unmarked (now (blocks .entry)) (now (blocks .exit)) (r .first) (r .blocks) ⌝ }

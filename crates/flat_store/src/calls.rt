@@ -23,7 +23,7 @@ fn fill(slot: &mut Slot, words: &[u32])
 }
 
 // The first words of a slot.
-pub fn front(slots: &[Slot], slot: usize, len: usize) -> &[u32]
+pub(crate) fn front(slots: &[Slot], slot: usize, len: usize) -> &[u32]
     requires slot { ⌜ slot < length (now slots) ⌝ }
     requires len { ⌜ len ≤ longest ⌝ }
     ensures words { λ r. ⌜ now r ≡ take len (wordsAt (now (slots .entry)) slot) ⌝ }
@@ -105,7 +105,7 @@ impl<'a> Image<'a> {
         self.dir[from] = Entry::EMPTY;
     }
 
-    pub fn put(&mut self, key: usize, words: &[u32]) -> bool
+    pub(crate) fn put(&mut self, key: usize, words: &[u32]) -> bool
         requires sound { ⌜ Sound (now self) ⌝ }
         ensures sound { λ _. ⌜ Sound (now (self .exit)) ⌝ }
         ensures answer { λ r. ⌜ r ≡ admits 32 (unitsIn (now (self .entry))) (filesIn (now (self .entry))) key (now (words .entry)) ⌝ }
@@ -130,7 +130,7 @@ impl<'a> Image<'a> {
         true
     }
 
-    pub fn clear(&mut self, key: usize)
+    pub(crate) fn clear(&mut self, key: usize)
         requires sound { ⌜ Sound (now self) ⌝ }
         ensures sound { λ _. ⌜ Sound (now (self .exit)) ⌝ }
         ensures files { λ _. ⌜ filesIn (now (self .exit)) ≡ set (filesIn (now (self .entry))) key None ⌝ }
@@ -146,7 +146,7 @@ impl<'a> Image<'a> {
         self.release(key);
     }
 
-    pub fn carry(&mut self, from: usize, to: usize)
+    pub(crate) fn carry(&mut self, from: usize, to: usize)
         requires sound { ⌜ Sound (now self) ⌝ }
         ensures sound { λ _. ⌜ Sound (now (self .exit)) ⌝ }
         ensures files { λ _. ⌜ filesIn (now (self .exit)) ≡ moved (filesIn (now (self .entry))) from to ⌝ }
@@ -168,7 +168,7 @@ impl<'a> Image<'a> {
         self.rename(from, to);
     }
 
-    pub fn length(&self, key: usize) -> Option<usize>
+    pub(crate) fn length(&self, key: usize) -> Option<usize>
         requires sound { ⌜ Sound (now self) ⌝ }
         ensures { λ r. ⌜ r ≡ lengthOf (fileAt (filesIn (now (self .entry))) key) ⌝ }
     {
@@ -179,7 +179,7 @@ impl<'a> Image<'a> {
         if entry.held { Some(entry.len) } else { None }
     }
 
-    pub fn part(&self, key: usize, at: usize) -> &[u32]
+    pub(crate) fn part(&self, key: usize, at: usize) -> &[u32]
         requires sound { ⌜ Sound (now self) ⌝ }
         ensures { λ r. ⌜ now r ≡ take 32 (drop (at * 32) (wordsOf (fileAt (filesIn (now (self .entry))) key))) ⌝ }
     {

@@ -55,7 +55,7 @@ fn mark(entry: Entry, slots: &mut [Slot]) -> bool
 }
 
 // The first key whose entry is damaged. Files and entries stay as they are, and the marks tell the slots that no file has.
-pub fn look_through(dir: &[Entry], slots: &mut [Slot]) -> Option<usize>
+pub(crate) fn look_through(dir: &[Entry], slots: &mut [Slot]) -> Option<usize>
     requires { ⌜ length (now dir) ≡ keyCount ⌝ }
     ensures found { λ r. ⌜ Cases r (Whole (now (dir .entry)) (length (now (slots .entry)))) (Damaged (now (dir .entry)) (length (now (slots .entry)))) ⌝ }
     ensures marks { λ r. ⌜ Cases r (Marks (now (dir .entry)) (now (slots .exit)) keyCount) (λ _. Unit {0}) ⌝ }
@@ -71,7 +71,7 @@ pub fn look_through(dir: &[Entry], slots: &mut [Slot]) -> Option<usize>
 }
 
 // Lists the slots without a mark, and answers how many there are.
-pub fn list_free(slots: &mut [Slot]) -> usize
+pub(crate) fn list_free(slots: &mut [Slot]) -> usize
     ensures count { λ r. ⌜ r ≡ countBy unnamed (now (slots .entry)) ⌝ }
     ensures free { λ r. ⌜ ((i : ℕ) → i < r → Free (now (slots .entry)) (getD (now (slots .exit)) i blank .spare)) ⌝ }
     ensures rising { λ r. ⌜ ((i j : ℕ) → i < j → j < r → getD (now (slots .exit)) i blank .spare < getD (now (slots .exit)) j blank .spare) ⌝ }

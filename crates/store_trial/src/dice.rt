@@ -7,11 +7,11 @@ pub struct Dice {
 }
 
 impl Dice {
-    pub fn new() -> Dice {
+    pub(crate) fn new() -> Dice {
         Dice { state: 20_261 }
     }
 
-    pub fn word(&mut self) -> u32 {
+    pub(crate) fn word(&mut self) -> u32 {
         self.state = self.state
             .wrapping_mul(1_664_525)
             .wrapping_add(1_013_904_223);
@@ -19,7 +19,7 @@ impl Dice {
     }
 
     // A number below another, from the upper bits.
-    pub fn below(&mut self, n: u32) -> u32
+    pub(crate) fn below(&mut self, n: u32) -> u32
         requires { ⌜ 0 < n ⌝ }
         ensures { λ r. ⌜ r < n ⌝ }
     {
@@ -27,7 +27,7 @@ impl Dice {
     }
 
     // One of about fifty keys, so that calls meet each other; the last of them are too high.
-    pub fn key(&mut self) -> usize {
+    pub(crate) fn key(&mut self) -> usize {
         let n = self.below(50) as usize;
         if n < 42 { n * 24 } else { 978 + n }
     }
