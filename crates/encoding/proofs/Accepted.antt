@@ -25,7 +25,7 @@ use Rattle.package.specs.Packages.{Carried, Contents, Fits, Rising, Within, tex
 use Rattle.package.proofs.Tests.{must-pass, refusal-on}
 use Rattle.encoding.proofs.Made.{file-word, file-length, file-path, file-back, file-is, file-no-end, file-passes, end-passes, end-is, end-back, head-is, head-name, head-version}
 use Rattle.encoding.proofs.Ran.{Ran}
-use Rattle.encoding.proofs.Encodes.{run-text}
+use Rattle.encoding.proofs.Encodes.{run-text, some-words}
 
 begin-low : (kind : TextKind) (b : ℕ) → may-begin kind b ≡ true → b < 256
 begin-low Name b h = grind (arith, tells)
@@ -59,16 +59,11 @@ content-run [] count floor place rest u = record {
   files = refl;
 }
 content-run (b ∷ bs) count floor place rest u =
-    let n : 1 ≤ length (text-words (b ∷ bs)) = some b bs in
+    let n : 1 ≤ length (text-words (b ∷ bs)) = some-words b bs in
     let e : eqb (length (text-words (b ∷ bs))) 0 ≡ false = ne-eqb (length (text-words (b ∷ bs))) 0 (λ z. omega arith) in
     subst (λ (d : Due). Ran d (item count floor) place (text-words (b ∷ bs) ++ rest) rest (b ∷ bs) (length (text-words (b ∷ bs))))
     (sym (ap (λ (t : Bool). cond t (item count floor) (text Free (3 * length (text-words (b ∷ bs))) false (item count floor))) e))
     (run-text (b ∷ bs) Free (3 * length (text-words (b ∷ bs))) false (item count floor) place rest (omega arith) refl refl u)
-  where
-    some : (c : ℕ) (cs : List ℕ) → 1 ≤ length (text-words (c ∷ cs))
-    some c [] = omega arith
-    some c (d ∷ []) = omega arith
-    some c (d ∷ e ∷ cs) = omega arith
 
 -- the words from the first file on
 abbrev pub tail : ℕ → List Carried → List ℕ

@@ -191,7 +191,7 @@ file-not-end w h e = go (is-file w) (is-end w) h e
     go true y i f = refl
     go false y i f = absurd (both-ways y f i)
 
-nothing-left : (place : ℕ) (ws : List ℕ) → refusal nothing place ws ≡ None → ws ≡ []
+pub nothing-left : (place : ℕ) (ws : List ℕ) → refusal nothing place ws ≡ None → ws ≡ []
 nothing-left place [] h = refl
 nothing-left place (w ∷ ws) h = some-none (word-refusal WrongWord place) h
 

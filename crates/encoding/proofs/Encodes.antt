@@ -24,7 +24,7 @@ abbrev pub Sized : TextRule → List ℕ → ℕ → Type 0
 Sized (Spelled kind) bs left = length bs ≡ left
 Sized Free bs left = 3 * length (text-words bs) ≡ left
 
-some-words : (b : ℕ) (bs : List ℕ) → 1 ≤ length (text-words (b ∷ bs))
+pub some-words : (b : ℕ) (bs : List ℕ) → 1 ≤ length (text-words (b ∷ bs))
 some-words b [] = omega arith
 some-words b (c ∷ []) = omega arith
 some-words b (c ∷ d ∷ bs) = omega arith

@@ -27,7 +27,7 @@ use Rattle.std.specs.Orderings.{Decides}
 use Rattle.encoding.specs.Laws.{Package-words, Name-words}
 use Rattle.encoding.proofs.Made.{head-made}
 use Rattle.encoding.proofs.Accepted.{fitting-bounds, tail}
-use Rattle.encoding.proofs.Decodes.{Decoded, Filed, text-decodes, files-decode}
+use Rattle.encoding.proofs.Decodes.{Decoded, Filed, text-decodes, files-decode, nothing-left}
 use Rattle.encoding.proofs.Whole.{laid, encoded-laid, encoded-accepted, name-accepted}
 
 -- a text is the same whatever is due behind it
@@ -94,10 +94,6 @@ accepted-encoded (w ∷ ws) h =
         (exact w ws bn rn bv rv (files-in (item 0 0) rv) (files-in package-head (w ∷ ws)) (files-in dv rn) i a b d e f)
 
 -- the same of a name alone
-nothing-behind : (place : ℕ) (ws : List ℕ) → refusal nothing place ws ≡ None → ws ≡ []
-nothing-behind place [] h = refl
-nothing-behind place (w ∷ ws) h = some-none (word-refusal WrongWord place) h
-
 pub name-exact : (words : List ℕ) → name-refusal words ≡ None → (allowed Name (name-in words) ≡ true) × (name-encoded (name-in words) ≡ words)
 name-exact [] h = some-none (word-refusal EndsEarly 0) h
 name-exact (w ∷ ws) h =
@@ -111,7 +107,7 @@ name-exact (w ∷ ws) h =
         → (allowed Name (name-in (w ∷ ws)) ≡ true) × (name-encoded (name-in (w ∷ ws)) ≡ w ∷ ws)
     go i a v d =
         let bn = text-in (text (Spelled Name) (name-length w) false nothing) ws in
-        let z = nothing-behind (0 + 1 + length (text-words bn)) (behind-text (text (Spelled Name) (name-length w) false nothing) ws) (d .run) in (
+        let z = nothing-left (0 + 1 + length (text-words bn)) (behind-text (text (Spelled Name) (name-length w) false nothing) ws) (d .run) in (
           sized-allowed Name (name-length w) bn a (d .sized) (d .right),
           ap₂ (λ (x y : ℕ). head-word x y ∷ text-words bn) (d .sized) (sym v)
               ∙ ap₂ (λ (x : ℕ) (t : List ℕ). x ∷ t) (head-made w i) (sym (append-nil (text-words bn)) ∙ ap (λ (t : List ℕ). text-words bn ++ t) (sym z) ∙ d .words),

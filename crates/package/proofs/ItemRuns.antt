@@ -23,7 +23,7 @@ use Rattle.package.specs.Words.{name-length, version-length, content-length, i
 use Rattle.package.specs.Checks.{Due, package-head, name-head, text, item, nothing, fault, contents, or-else, next, refusal}
 use Rattle.package.specs.Items.{Handed, end-part, due-at, file-handed, handed, item-at, item-refusal, judged, text-refusal, content-refusal, words-for}
 use Rattle.package.proofs.Tests.{some-none, or-else-none}
-use Rattle.package.proofs.TextSound.{or-run, text-run, content-run}
+use Rattle.package.proofs.TextSound.{or-run, step-run, text-run, content-run}
 
 -- an item that was handed out had a first word, no fault, and is the one that the definition names
 pub record Got (stage : Stage) (place : ℕ) (ws : List ℕ) (h : Handed) : Type 0 where
@@ -41,11 +41,6 @@ got stage place (w ∷ ws) h e₀ = go (item-refusal stage place w ws) refl e₀
     go (Some refused) c e = let z : _≡_ {A = ℕ} 0 1 = cc in absurd (omega arith)
     go None c e = record { word = w; rest = ws; words = refl; clean = c; item = cc }
 
--- the checks of an item, and then those of what is due behind it
-step-run : (o : Option Reason) (place : ℕ) (x y z : Option Refusal) → x ≡ or-run y z → or-else o place x ≡ or-run (or-else o place y) z
-step-run (Some reason) place x y z e = refl
-step-run None place x y z e = e
-
 -- what the checks say from an item on
 abbrev onwards : Handed → ℕ → List ℕ → Option Refusal
 onwards h place ws = refusal (due-at (h .stage)) (h .behind) (drop (h .behind - place) ws)
@@ -53,6 +48,7 @@ onwards h place ws = refusal (due-at (h .stage)) (h .behind) (drop (h .behind - 
 dropped : (place w : ℕ) (ws : List ℕ) (n : ℕ) → drop n ws ≡ drop (place + 1 + n - place) (w ∷ ws)
 dropped place w ws n = let e : suc n ≡ place + 1 + n - place = omega arith in ap (λ (m : ℕ). drop m (w ∷ ws)) e
 
+-- the checks of an item, and then those of what is due behind it
 pub item-run : (stage : Stage) (place w : ℕ) (ws : List ℕ) → refusal (due-at stage) place (w ∷ ws) ≡ or-run (item-refusal stage place w ws) (onwards (handed stage place w ws) place (w ∷ ws))
 item-run Package place w ws =
     step-run (fault package-head place w) place _ _ _

@@ -30,7 +30,7 @@ abbrev pub or-run : Option Refusal → Option Refusal → Option Refusal
 or-run (Some refused) others = Some refused
 or-run None others = others
 
-step-run : (o : Option Reason) (place : ℕ) (x y z : Option Refusal) → x ≡ or-run y z → or-else o place x ≡ or-run (or-else o place y) z
+pub step-run : (o : Option Reason) (place : ℕ) (x y z : Option Refusal) → x ≡ or-run y z → or-else o place x ≡ or-run (or-else o place y) z
 step-run (Some reason) place x y z e = refl
 step-run None place x y z e = e
 
