@@ -1,4 +1,6 @@
 // What every layer speaks of: refusals, and the texts of names and versions.
+#![tactic(auto)]
+
 mod files;
 mod laws;
 mod name;

@@ -1,4 +1,5 @@
-ghost use Rattle.std.specs.Prelude.{◌≡◌, Decides};
+ghost use Rattle.std.specs.Prelude.{◌≡◌, Decides, nat_eq};
+ghost use Rattle.std.specs.Cmp.Lexicographic.{pointwise};
 ghost use Rattle.base.specs.Named.{name_rows, name_text, row_of, row_if};
 ghost use Rattle.base.specs.Texts.{before};
 ghost use Rattle.std.specs.Cmp.Rules.{comparing};
@@ -49,15 +50,18 @@ impl Name {
 }
 
 impl PartialEq for Name {
-    ghost equals = { λ x y r. Decides r (x ≡ y) };
+    ghost eq = { λ x y. pointwise nat_eq x.row.bytes y.row.bytes };
 
-    ghost laws = { Keys.partial_equiv_from_equiv (first_of (Prim.search (comparing, rules), Prim.grind (arith, Self.row.coded.inj))) };
+    ghost laws = { Keys.partial_equiv_from_equiv (Prim.search (comparing, rules)) };
 
-    fn eq(&self, other: &Name) -> bool {
+    fn eq(&self, other: &Name) -> bool
+        ensures gives { result ≡ pointwise nat_eq self.now.row.bytes other.now.row.bytes }
+        ensures decides { Decides result (self.now ≡ other.now) }
+    {
         self.row == other.row
     }
 }
 
 impl Eq for Name {
-    ghost laws = { first_of (Prim.search (comparing, rules), Prim.grind (arith, Self.row.coded.inj)) };
+    ghost laws = { Prim.search (comparing, rules) };
 }

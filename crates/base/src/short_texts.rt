@@ -1,4 +1,5 @@
-ghost use Rattle.std.specs.Prelude.{◌≡◌, ◌≤◌, true, length, IfSome, Decides};
+ghost use Rattle.std.specs.Prelude.{◌≡◌, ◌≤◌, true, length, IfSome, Decides, nat_eq};
+ghost use Rattle.std.specs.Cmp.Lexicographic.{pointwise};
 ghost use Rattle.base.specs.Named.{row_of, row_if};
 ghost use Rattle.base.specs.Texts.{all, allowed, spelt, padded, before, may_follow, spells, holds};
 ghost use Rattle.std.specs.Cmp.Rules.{comparing};
@@ -55,11 +56,14 @@ fn zero_padded(text: &[u8]) -> ShortText
 }
 
 impl PartialEq for ShortText {
-    ghost equals = { λ x y r. Decides r (x ≡ y) };
+    ghost eq = { λ x y. pointwise nat_eq x.bytes y.bytes };
 
     ghost laws = { Keys.partial_equiv_from_equiv (Prim.search (comparing, rules)) };
 
-    fn eq(&self, other: &ShortText) -> bool {
+    fn eq(&self, other: &ShortText) -> bool
+        ensures gives { result ≡ pointwise nat_eq self.now.bytes other.now.bytes }
+        ensures decides { Decides result (self.now ≡ other.now) }
+    {
         self.bytes == other.bytes
     }
 }

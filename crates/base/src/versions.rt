@@ -1,4 +1,5 @@
-ghost use Rattle.std.specs.Prelude.{◌≡◌, Decides};
+ghost use Rattle.std.specs.Prelude.{◌≡◌, Decides, nat_eq};
+ghost use Rattle.std.specs.Cmp.Lexicographic.{pointwise};
 ghost use Rattle.base.specs.Named.{version_rows, version_text, row_of, row_if};
 ghost use Rattle.std.specs.Cmp.Rules.{comparing};
 ghost use Rattle.std.proofs.Common.{rules, arith};
@@ -41,15 +42,18 @@ impl Version {
 }
 
 impl PartialEq for Version {
-    ghost equals = { λ x y r. Decides r (x ≡ y) };
+    ghost eq = { λ x y. pointwise nat_eq x.row.bytes y.row.bytes };
 
-    ghost laws = { Keys.partial_equiv_from_equiv (first_of (Prim.search (comparing, rules), Prim.grind (arith, Self.row.coded.inj))) };
+    ghost laws = { Keys.partial_equiv_from_equiv (Prim.search (comparing, rules)) };
 
-    fn eq(&self, other: &Version) -> bool {
+    fn eq(&self, other: &Version) -> bool
+        ensures gives { result ≡ pointwise nat_eq self.now.row.bytes other.now.row.bytes }
+        ensures decides { Decides result (self.now ≡ other.now) }
+    {
         self.row == other.row
     }
 }
 
 impl Eq for Version {
-    ghost laws = { first_of (Prim.search (comparing, rules), Prim.grind (arith, Self.row.coded.inj)) };
+    ghost laws = { Prim.search (comparing, rules) };
 }

@@ -1,3 +1,5 @@
+#![tactic(auto)]
+
 pub mod blocks;
 mod calls;
 pub mod cells;

@@ -1,4 +1,6 @@
 // The books of a station: the records of packages, the owners of paths, and the trace of script calls.
+#![tactic(auto)]
+
 mod books;
 mod changes;
 mod disowning;

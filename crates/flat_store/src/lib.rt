@@ -1,3 +1,5 @@
+#![tactic(auto)]
+
 mod calls;
 pub mod cells;
 pub mod flat;

@@ -1,4 +1,6 @@
 // Script calls, what a script host is, and the trace of what was run.
+#![tactic(auto)]
+
 mod calls;
 mod hosts;
 mod laws;

@@ -1,4 +1,6 @@
 // Script hosts that run nothing: by rules, by a transcript, by a list of answers.
+#![tactic(auto)]
+
 mod answers;
 mod rules;
 mod tables;

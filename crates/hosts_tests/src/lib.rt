@@ -1,4 +1,6 @@
 // Hosts and the trace at work, on examples whose answers follow from the rules by hand.
+#![tactic(auto)]
+
 #[cfg(test)]
 mod samples;
 #[cfg(test)]

@@ -1,4 +1,6 @@
 // Prints what package files hold, or why they are refused.
+#![tactic(auto)]
+
 mod listing;
 
 use anyhow::anyhow;

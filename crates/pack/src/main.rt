@@ -1,4 +1,6 @@
 // Makes a package file from a description.
+#![tactic(auto)]
+
 mod description;
 mod encode;
 mod lines;

@@ -1,4 +1,6 @@
 // Packages as lists of words: the items in them, and whole packages.
+#![tactic(auto)]
+
 mod checks;
 mod gather;
 mod items;

@@ -1,5 +1,7 @@
 // Reads packages whose answers follow from the rules by hand, and says whether each came out so.
 // Place and layer of a refusal: the index of the word, and 1 for number 2, else 2.
+#![tactic(auto)]
+
 mod accepted;
 mod early;
 mod limits;

@@ -1,4 +1,6 @@
 // What the four calls of a station are, and what each comes to: the plans that the station's contracts cite.
+#![tactic(auto)]
+
 mod calls;
 mod outcomes;
 

@@ -1,4 +1,6 @@
 // A station and its four calls: install, configure, remove, purge.
+#![tactic(auto)]
+
 mod asking;
 mod calls;
 mod ending;

@@ -1,4 +1,6 @@
 // The rows of the status database: what is recorded of a package, and who owns a path.
+#![tactic(auto)]
+
 mod laws;
 mod noted;
 mod rows;

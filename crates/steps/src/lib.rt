@@ -1,4 +1,6 @@
 // What a call does to files, path by path, over any store.
+#![tactic(auto)]
+
 mod carrying;
 mod files;
 mod laying;

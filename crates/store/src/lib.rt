@@ -1,3 +1,5 @@
+#![tactic(auto)]
+
 pub mod api;
 pub mod keys;
 pub mod paths;

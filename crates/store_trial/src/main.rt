@@ -1,3 +1,5 @@
+#![tactic(auto)]
+
 mod client;
 mod dice;
 mod drive;

@@ -1,4 +1,6 @@
 // Ordered tables over lent memory, for every kind of row with an ordered key.
+#![tactic(auto)]
+
 mod key;
 mod keys;
 mod laws;

@@ -1,4 +1,6 @@
 // Tables at work: packages by name, and owned paths by number.
+#![tactic(auto)]
+
 mod directory;
 mod rows;
 mod tens;

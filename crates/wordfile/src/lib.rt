@@ -1,4 +1,6 @@
 // Package files: how words lie in a file, and the line that tells why words were refused.
+#![tactic(auto)]
+
 mod layout;
 mod telling;
 

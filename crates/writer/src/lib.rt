@@ -1,4 +1,6 @@
 // Text written piece by piece into a lent buffer, behind its first `count` bytes.
+#![tactic(auto)]
+
 ghost use Rattle.std.specs.Prelude.{◌≡◌, decimal};
 ghost use Rattle.writer.specs.Fills.{GoesOn};
 
