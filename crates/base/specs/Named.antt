@@ -1,8 +1,7 @@
 -- The text of a name and of a version, and what their constructors answer.
-use Rattle.std.specs.Prelude.{◌≡◌, ℕ, Bool, true, false, cond, List, Some, None, Option}
+use Rattle.std.specs.Prelude.{◌≡◌, ℕ, cond, List, Some, None, Option}
 use Rattle.base.specs.declared.texts.ShortText.{ShortText}
 use Rattle.base.specs.declared.texts.TextKind.{TextKind}
-use Rattle.base.specs.declared.texts.TextKind.TheVariants.{Name as name, Version as version}
 use Rattle.base.specs.declared.name.Name.{Name}
 use Rattle.base.specs.declared.version.Version.{Version}
 use Rattle.base.specs.Texts.{allowed, holds, padded, spelt}

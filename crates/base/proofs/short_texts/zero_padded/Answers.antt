@@ -2,4 +2,4 @@ use Rattle.base.proofs.Walks.{pads}
 use Rattle.base.proofs.short_texts.zero_padded.Goals as goal
 
 pub returns : goal.returns
-returns c = pads c.copy-from-slice.new.self c.args.text.now c.copy-from-slice.ensures.after
+returns c = pads c.copy_from_slice.new.self c.args.text.now c.copy_from_slice.ensures.after

@@ -1,4 +1,4 @@
-use Rattle.std.proofs.Common.{◌<◌, ◌≤◌, length, sym, ap, ◌∙◌, rules}
+use Rattle.std.proofs.Common.{◌<◌, ◌≤◌, length, sym, ◌∙◌, rules}
 use Rattle.base.proofs.Order.{before_here, before_on, before_end}
 use Rattle.base.proofs.texts.ShortText.before.Goals as goal
 

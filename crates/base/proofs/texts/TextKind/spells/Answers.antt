@@ -6,4 +6,4 @@ use Rattle.base.proofs.texts.TextKind.spells.Goals as goal
 pub returns : goal.returns
 returns c =
     let h : 0 < length c.args.text.now = search rules in
-    c.all-follow-2.ensures ∙ spelled_on c.args.self c.args.text.now h (sym c.if-not-may-begin.ensures) ∙ ap (λ (b : Bool). spells c.args.self b c.args.text.now) (sym c.if-begun.false)
+    c.all_follow-2.ensures ∙ spelled_on c.args.self c.args.text.now h (sym c.if-not-may_begin.ensures) ∙ ap (λ (b : Bool). spells c.args.self b c.args.text.now) (sym c.if-begun.false)
