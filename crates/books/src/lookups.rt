@@ -34,7 +34,7 @@ impl<'a> Books<'a> {
     // The records, in the order of their names.
     pub fn records(&self) -> &[Record]
         ensures rows { result.now ≡ (ledger self.now).records }
-        ensures* order { λ r. ⌜ rising by_bytes (λ r. r.name) r.now ≡ true ⌝ }
+        ensures order { rising by_bytes (λ r. r.name) result.now ≡ true }
     {
         self.records.rows()
     }

@@ -6,10 +6,10 @@ use table::{Element, Key, Table};
 
 // Puts a row into a table: over the row of its key, or in beside the others.
 pub(crate) fn put<E: Element>(table: &mut Table<'_, E>, row: E) -> bool
-    requires { Sorted K-as-Key.below E.Element.keyed table.old }
+    requires { Sorted E.K.Key.below E.Element.keyed table.old }
     ensures room { room table.new ≡ room table.old }
-    ensures order { Sorted K-as-Key.below E.Element.keyed table.new }
-    ensures put { Put K-as-Key.below E.Element.keyed row (room table.old) (live table.old) result (live table.new) }
+    ensures order { Sorted E.K.Key.below E.Element.keyed table.new }
+    ensures put { Put E.K.Key.below E.Element.keyed row (room table.old) (live table.old) result (live table.new) }
 {
     if let Some(_) = table.replace(row) {
         return true;
