@@ -1,12 +1,12 @@
 -- The lists of a flat image: one entry or one slot changes.
-use Rattle.std.proofs.Common.{◌≡◌, ℕ, zero, suc, ◌+◌, ◌-◌, ◌*◌, ◌<◌, ◌≤◌, min, Bool, true, false, cond, ltb, ◌⊎◌, List, [], ◌∷◌, ◌++◌, map, length, get_or, take, drop, set, replicate, is_some, Some, None, sum_by, sym, refl, ap, ◌∙◌, subst, inl, inr, arith}
+use Rattle.std.proofs.Common.{◌≡◌, ℕ, zero, suc, ◌+◌, ◌-◌, ◌*◌, ◌<◌, ◌≤◌, Bool, true, false, cond, ltb, List, [], ◌∷◌, ◌++◌, map, length, get_or, take, drop, set, replicate, is_some, Some, None, sum_by, sym, refl, ap, ◌∙◌, subst, inl, inr, arith}
 use mathlib.Core.Path.{fun_ext}
-use Rattle.std.proofs.lemmas.List.{get_or-set_same, get_or-set_other, get_or_past, get_or-map, get_or_default, map-set, get_or-replicate, length-replicate, length-set, length-map, length-take, set_past, set-set, set-get_or, take_at, take_all, drop_all}
+use Rattle.std.proofs.lemmas.List.{get_or-set_same, get_or-set_other, get_or_past, get_or-map, map-set, get_or-replicate, length-replicate, length-set, length-map, length-take, set_past, set-get_or, take_at, take_all, drop_all}
 use Rattle.std.proofs.lemmas.List.Sums.{sum_by-cons, sum_by-set, get_or-le-sum_by}
 use Rattle.std.proofs.lemmas.Bool.{cases_eq, cases_lt, cond-true, cond-false, lt-ltb, le-ltb, ltb-true, both_ways}
 use Rattle.std.proofs.lemmas.Bool.Decides.{nat_tests}
-use Rattle.store.specs.Files.{File, Files, key_count, longest, file_at, cost, units_of, used, moved, length_of, words_of}
-use Rattle.store.proofs.Facts.{used_set, moved_yes}
+use Rattle.store.specs.Files.{key_count, longest, file_at, units_of, used, length_of, words_of}
+use Rattle.store.proofs.Facts.{used_set}
 use Rattle.flat_store.specs.Images.{none, blank, entry_at, words_at, entry_file, image_files, live, slot_at, Apart, Fits, units, Kept}
 use Rattle.flat_store.specs.declared.cells.Entry.{Entry}
 use Rattle.flat_store.specs.declared.cells.Slot.{Slot}

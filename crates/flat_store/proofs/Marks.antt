@@ -1,11 +1,11 @@
 -- Slots of which only the `spare` is written.
-use Rattle.std.proofs.Common.{◌≡◌, ℕ, zero, suc, ◌+◌, ◌-◌, ◌<◌, ◌≤◌, Bool, true, false, cond, not, ◌&&◌, ◌||◌, eqb, ltb, leb, ◌⊎◌, List, [], ◌∷◌, map, length, get_or, take, set, Some, None, sum_by, count_by, sym, refl, ap, ◌∙◌, subst, inl, inr, arith}
+use Rattle.std.proofs.Common.{◌≡◌, ℕ, suc, ◌+◌, ◌-◌, ◌<◌, ◌≤◌, Bool, true, false, cond, not, ◌&&◌, ◌||◌, eqb, ltb, leb, List, [], ◌∷◌, map, length, get_or, take, set, Some, None, sum_by, count_by, sym, refl, ap, ◌∙◌, subst, inl, inr, arith}
 use mathlib.Core.Path.{fun_ext}
-use Rattle.std.proofs.lemmas.List.{get_or-set_same, get_or-set_other, set_past, get_or_past, get_or-take, length-take, length-set, take_all}
+use Rattle.std.proofs.lemmas.List.{get_or-set_same, get_or-set_other, set_past, get_or-take, length-take, length-set, take_all}
 use Rattle.std.proofs.lemmas.List.Sums.{sum_by-cons, sum_by-set, sum_by_more, get_or-le-sum_by}
-use Rattle.std.proofs.lemmas.Bool.{cases_eq, cases_lt, cases_order, cond-true, cond-false, eqb-true, eqb-false, eq-eqb, ne_eqb, ltb-true, leb-true, and_parts, and_from, and_right, or_cases, both_ways, lt-ltb, le-ltb}
-use Rattle.store.specs.Files.{Files, key_count, longest}
-use Rattle.flat_store.specs.Images.{none, blank, entry_at, words_at, entry_file, image_files, live, slot_at, Apart, Fits, units, Kept}
+use Rattle.std.proofs.lemmas.Bool.{cases_eq, cases_lt, cases_order, eqb-true, eq-eqb, ne_eqb, ltb-true, and_parts, and_from, and_right, both_ways}
+use Rattle.store.specs.Files.{key_count, longest}
+use Rattle.flat_store.specs.Images.{none, blank, entry_at, words_at, image_files, live, slot_at, Fits, units, Kept}
 use Rattle.flat_store.specs.Taking.{named, good, Whole, Damaged, markable, marked, unnamed, Marks, Free}
 use Rattle.flat_store.specs.declared.cells.Entry.{Entry}
 use Rattle.flat_store.specs.declared.cells.Slot.{Slot}
@@ -169,7 +169,7 @@ module _ (old ss : List Slot) (p free : ℕ) (long : length ss ≡ length old) (
         inv.5,
       )
 
-  module _ (s : Slot) (zero-here : (get_or ss p blank).spare ≡ 0) (spare : s.spare ≡ p) (words : s.words ≡ words_at ss free) where
+  module _ (s : Slot) (zero_here : (get_or ss p blank).spare ≡ 0) (spare : s.spare ≡ p) (words : s.words ≡ words_at ss free) where
     abbrev lss : List Slot
     lss = set ss free s
 
@@ -177,7 +177,7 @@ module _ (old ss : List Slot) (p free : ℕ) (long : length ss ≡ length old) (
     here = spare_here ss free s (omega (arith, inv.1)) ∙ spare
 
     was_zero : (get_or old p blank).spare ≡ 0
-    was_zero = sym (inv.2 p (omega arith)) ∙ zero-here
+    was_zero = sym (inv.2 p (omega arith)) ∙ zero_here
 
     at : (i : ℕ) → i < free + 1 → ((get_or lss i blank).spare < p + 1) × Free old (get_or lss i blank).spare
     at i l =
@@ -209,7 +209,7 @@ module _ (old ss : List Slot) (p free : ℕ) (long : length ss ≡ length old) (
 
 -- A whole image with its free slots listed is sound.
 module _ (dir : List Entry) (ss old : List Slot) (free : ℕ) (long : length dir ≡ key_count) (same : length ss ≡ length old) (marks : Marks dir old key_count)
-    (count : free ≡ count_by unnamed old) (free-at : (i : ℕ) → i < free → Free old (get_or ss i blank).spare)
+    (count : free ≡ count_by unnamed old) (free_at : (i : ℕ) → i < free → Free old (get_or ss i blank).spare)
     (rising : (i j : ℕ) → i < j → j < free → (get_or ss i blank).spare < (get_or ss j blank).spare) (words : (p : ℕ) → words_at ss p ≡ words_at old p) where
   all : take key_count dir ≡ dir
   all = take_all key_count dir (omega arith)
@@ -227,7 +227,7 @@ module _ (dir : List Entry) (ss old : List Slot) (free : ℕ) (long : length dir
 
   key_free : (k i : ℕ) → k < key_count → i < free → (entry_at dir k).held ≡ true → (entry_at dir k).slot ≡ (get_or ss i blank).spare → ⊥
   key_free k i kl il on e =
-      let f = free-at i il in
+      let f = free_at i il in
       let h = named_some dir key_count k (get_or ss i blank).spare kl (omega arith) on e in
       let m = marks.0 (get_or ss i blank).spare f.0 in
       omega (arith, f.1)
@@ -249,7 +249,7 @@ module _ (dir : List Entry) (ss old : List Slot) (free : ℕ) (long : length dir
   inside x on =
       elim (cases_lt x key_count) [
         | inl h ↦ omega (arith, slot_key dir ss free x h, (fine x h (key_on x h on)).0)
-        | inr h ↦ omega (arith, slot_free dir ss free x h, (free-at (x - key_count) (free_on x h on)).0)
+        | inr h ↦ omega (arith, slot_free dir ss free x h, (free_at (x - key_count) (free_on x h on)).0)
       ]
 
   apart : (x y : ℕ) → live dir free x ≡ true → live dir free y ≡ true → slot_at dir ss x ≡ slot_at dir ss y → x ≡ y

@@ -1,5 +1,5 @@
 -- Places that name slots: what a place is, and a slot that goes from one place to another.
-use Rattle.std.proofs.Common.{◌≡◌, ℕ, ◌+◌, ◌-◌, ◌<◌, ◌≤◌, Bool, true, false, cond, ltb, ◌⊎◌, List, length, get_or, sym, refl, ap, ◌∙◌, subst, inl, inr, arith}
+use Rattle.std.proofs.Common.{◌≡◌, ℕ, ◌-◌, ◌<◌, ◌≤◌, Bool, true, false, ltb, ◌⊎◌, List, get_or, sym, refl, ap, ◌∙◌, subst, inl, inr, arith}
 use Rattle.std.proofs.lemmas.Bool.{cases_eq, cond-true, cond-false, lt-ltb, le-ltb, both_ways}
 use Rattle.store.specs.Files.{key_count}
 use Rattle.flat_store.specs.Images.{blank, entry_at, live, slot_at, Apart}
@@ -51,7 +51,7 @@ module _
     )
 
 pub unchanged : (on on' : ℕ → Bool) (at at' : ℕ → ℕ) (n : ℕ) → Apart on at n → ((z : ℕ) → on' z ≡ on z) → ((z : ℕ) → at' z ≡ at z) → Apart on' at' n
-unchanged on on' at at' n apart same-on same_at = (
-  (λ z h. subst (λ (s : ℕ). s < n) (sym (same_at z)) (apart.0 z (sym (same-on z) ∙ h))),
-  (λ z v h g e. apart.1 z v (sym (same-on z) ∙ h) (sym (same-on v) ∙ g) (sym (same_at z) ∙ e ∙ same_at v)),
+unchanged on on' at at' n apart same_on same_at = (
+  (λ z h. subst (λ (s : ℕ). s < n) (sym (same_at z)) (apart.0 z (sym (same_on z) ∙ h))),
+  (λ z v h g e. apart.1 z v (sym (same_on z) ∙ h) (sym (same_on v) ∙ g) (sym (same_at z) ∙ e ∙ same_at v)),
 )

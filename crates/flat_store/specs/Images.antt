@@ -1,5 +1,5 @@
 -- What a flat image means, and what holds of it between calls.
-use Rattle.std.specs.Prelude.{◌≡◌, ℕ, ◌+◌, ◌-◌, ◌<◌, ◌≤◌, Bool, true, false, cond, List, [], map, length, get_or, take, Some, None, sum_by, nat_lt, slice_index_or}
+use Rattle.std.specs.Prelude.{◌≡◌, ℕ, ◌+◌, ◌-◌, ◌<◌, ◌≤◌, Bool, true, false, cond, List, [], map, length, take, Some, None, sum_by, nat_lt, slice_index_or}
 use Rattle.store.specs.Files.{File, Files, key_count, longest}
 use Rattle.flat_store.specs.declared.cells.Entry.{Entry}
 use Rattle.flat_store.specs.declared.cells.Slot.{Slot}
@@ -15,7 +15,7 @@ abbrev pub entry_at : List Entry → ℕ → Entry
 entry_at dir k = slice_index_or dir k none
 
 abbrev pub words_at : List Slot → ℕ → List ℕ
-words_at ss p = (get_or ss p blank).words
+words_at ss p = (slice_index_or ss p blank).words
 
 -- the file of an entry
 abbrev pub entry_file : List Slot → Entry → File
@@ -29,7 +29,7 @@ abbrev pub live : List Entry → ℕ → ℕ → Bool
 live dir free x = cond (nat_lt x key_count) (entry_at dir x).held (nat_lt (x - key_count) free)
 
 abbrev pub slot_at : List Entry → List Slot → ℕ → ℕ
-slot_at dir ss x = cond (nat_lt x key_count) (entry_at dir x).slot (get_or ss (x - key_count) blank).spare
+slot_at dir ss x = cond (nat_lt x key_count) (entry_at dir x).slot (slice_index_or ss (x - key_count) blank).spare
 
 -- each live place names a slot, and no slot twice
 abbrev pub Apart : (ℕ → Bool) → (ℕ → ℕ) → ℕ → Type 0

@@ -1,5 +1,5 @@
 -- Which memory is a whole image, that may be taken up again.
-use Rattle.std.specs.Prelude.{◌≡◌, ℕ, ◌+◌, ◌<◌, ◌≤◌, Bool, true, false, not, ◌&&◌, ◌||◌, List, length, take, sum_by, count_by, ◌==◌, nat_le, nat_lt, slice_index_or, slice_set}
+use Rattle.std.specs.Prelude.{◌≡◌, ℕ, ◌+◌, ◌<◌, Bool, true, false, not, ◌&&◌, ◌||◌, List, length, take, sum_by, count_by, ◌==◌, nat_le, nat_lt, slice_index_or, slice_set}
 use Rattle.store.specs.Files.{key_count, longest}
 use Rattle.flat_store.specs.Images.{blank, entry_at, words_at, units, Fits}
 use Rattle.flat_store.specs.declared.cells.Entry.{Entry}

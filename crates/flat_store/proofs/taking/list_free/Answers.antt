@@ -1,4 +1,4 @@
-use Rattle.std.proofs.Common.{◌≡◌, count_by, refl, ap, ◌∙◌, arith}
+use Rattle.std.proofs.Common.{count_by, refl, ap, ◌∙◌}
 use Rattle.std.proofs.lemmas.List.{take_all}
 use Rattle.flat_store.specs.Taking.{unnamed}
 use Rattle.flat_store.proofs.Marks.{list_none, list_skip, list_more}

@@ -1,4 +1,4 @@
-use Rattle.std.proofs.Common.{◌≡◌, ℕ, length}
+use Rattle.std.proofs.Common.{◌≡◌, ℕ}
 use Rattle.flat_store.specs.Images.{words_at}
 use Rattle.flat_store.specs.Taking.{Marks}
 use Rattle.flat_store.proofs.taking.look_through.Given as goal

@@ -1,4 +1,4 @@
-use Rattle.std.proofs.Common.{refl, ap, ◌∙◌, arith, below_more}
+use Rattle.std.proofs.Common.{refl, ◌∙◌, arith, below_more}
 use Rattle.flat_store.proofs.Marks.{spare_here, spare_other, spare_words}
 use Rattle.flat_store.proofs.taking.unmark.Goals as goal
 

@@ -1,8 +1,12 @@
-use Rattle.flat_store.proofs.Sounds.{sound_of, facts}
+use Rattle.flat_store.proofs.Images.{keys_all}
+use Rattle.flat_store.proofs.Sounds.{sound_of, room_all}
 use Rattle.flat_store.proofs.flat.FlatStoreStore.carry.Goals as goal
 
 pub carry-requires : goal.carry-requires
 carry-requires c = record { sound = sound_of c.args.self.now.image c.args.self.now.sound }
 
-pub invariant-of-self : goal.invariant-of-self
-invariant-of-self c = let m = c.carry.new.self in facts m.dir.now m.slots.now m.free c.carry.ensures.sound
+pub invariant_of-self : goal.invariant_of-self
+invariant_of-self c =
+    let m = c.carry.new.self in
+    let h = c.carry.ensures.sound in
+    record { sound = ∣ h ∣₁; keys = keys_all m.dir.now m.slots.now m.free h; room = room_all m.dir.now m.slots.now m.free h }

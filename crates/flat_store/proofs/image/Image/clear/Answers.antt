@@ -1,4 +1,4 @@
-use Rattle.std.proofs.Common.{sym, refl, ap, ◌∙◌, arith}
+use Rattle.std.proofs.Common.{refl, arith}
 use Rattle.flat_store.proofs.Images.{clear_past, clear_empty, entry_past}
 use Rattle.flat_store.proofs.image.Image.clear.Goals as goal
 

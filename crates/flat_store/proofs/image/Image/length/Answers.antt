@@ -1,5 +1,5 @@
-use Rattle.std.proofs.Common.{◌≡◌, ◌<◌, sym, ap, ◌∙◌, arith}
-use Rattle.store.specs.Files.{key_count, length_of}
+use Rattle.std.proofs.Common.{sym, ap, arith}
+use Rattle.store.specs.Files.{length_of}
 use Rattle.flat_store.proofs.Images.{file_past, file_empty, file_length}
 use Rattle.flat_store.proofs.image.Image.length.Goals as goal
 

@@ -1,4 +1,4 @@
-use Rattle.std.proofs.Common.{◌≡◌, ◌<◌, [], set, Some, sym, refl, ap, ◌∙◌, arith}
+use Rattle.std.proofs.Common.{◌<◌, [], set, Some, refl, ap, ◌∙◌, arith}
 use Rattle.std.proofs.lemmas.List.{set-set}
 use Rattle.store.specs.Files.{key_count}
 use Rattle.store.proofs.Facts.{admits_yes, admits_full}
@@ -41,6 +41,6 @@ returns c =
     record {
       sound = c.write-2.ensures.sound;
       answer = admits_yes 32 (units_in m) (files_in m) k ws c.if-words-gt-LONGEST.false kl (put_more m.dir.now m.slots.now m.free c.requires.sound k ws kl c.if-words-gt-LONGEST.false c.if-self-key.false c.if-self-eq0.false);
-      files = c.write-2.ensures.files ∙ ap (λ fs. set fs k (Some ws)) c.take-slot.ensures.files ∙ set-set (files_in m) k (Some []) (Some ws);
-      units = c.write-2.ensures.units ∙ c.take-slot.ensures.units;
+      files = c.write-2.ensures.files ∙ ap (λ fs. set fs k (Some ws)) c.take_slot.ensures.files ∙ set-set (files_in m) k (Some []) (Some ws);
+      units = c.write-2.ensures.units ∙ c.take_slot.ensures.units;
     }

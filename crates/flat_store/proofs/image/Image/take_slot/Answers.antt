@@ -1,5 +1,4 @@
 use Rattle.std.proofs.Common.{◌≡◌, ◌+◌, ◌-◌, refl, ap, arith}
-use Rattle.flat_store.specs.Images.{none}
 use Rattle.flat_store.proofs.Images.{entry_here, took_kept, took_files}
 use Rattle.flat_store.proofs.image.Image.take_slot.Goals as goal
 

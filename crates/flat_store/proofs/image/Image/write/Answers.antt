@@ -1,4 +1,3 @@
-use Rattle.std.proofs.Common.{refl}
 use Rattle.std.proofs.lemmas.List.{length-set}
 use Rattle.flat_store.proofs.Images.{wrote_kept, wrote_files}
 use Rattle.flat_store.proofs.image.Image.write.Goals as goal
