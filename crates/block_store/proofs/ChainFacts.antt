@@ -1,16 +1,15 @@
 -- The block store's lists: two chains and one block change.
-use Rattle.std.proofs.Common.{◌≡◌, ℕ, zero, suc, ◌+◌, ◌-◌, ◌*◌, ◌/◌, ◌<◌, ◌≤◌, min, Bool, true, false, cond, ltb, ◌⊎◌, List, [], ◌∷◌, ◌++◌, map, length, get_or, take, drop, set, replicate, is_some, Some, None, sum_by, sym, refl, ap, ◌∙◌, subst, inl, inr, add-one, arith}
-use Rattle.std.proofs.lemmas.List.{get_or-set_same, get_or-set_other, get_or_past, get_or-map, get_or-take, get_or-replicate, length-replicate, length-set, length-map, length-take, length-append, set-set, set_past, set-get_or, take_all, ext_get_or}
-use Rattle.std.proofs.lemmas.List.Sums.{sum_by-cons, sum_by-set, sum_by_more, get_or-le-sum_by}
-use Rattle.std.proofs.lemmas.Bool.{cases_eq, cases_lt, cond-true, cond-false, lt-ltb, le-ltb}
-use Rattle.store.specs.Files.{File, Files, key_count, longest, cost, file_at, units_of, used, moved, length_of, words_of}
-use Rattle.store.proofs.Facts.{used_set, moved_yes}
-use Rattle.block_store.specs.Walks.{chain_count, walk, content, Within, Apart}
+use Rattle.std.proofs.Common.{◌≡◌, ℕ, zero, suc, ◌+◌, ◌<◌, ◌≤◌, cond, ltb, List, ◌++◌, length, take, set, replicate, Some, None, sum_by, sym, refl, ap, ◌∙◌, subst, inl, inr, add-one, arith}
+use Rattle.std.proofs.lemmas.List.{get_or-set_same, get_or-set_other, get_or-replicate, length-replicate, length-set, ext_get_or}
+use Rattle.std.proofs.lemmas.List.Sums.{sum_by-cons, sum_by-set, get_or-le-sum_by}
+use Rattle.std.proofs.lemmas.Bool.{cases_eq}
+use Rattle.store.specs.Files.{File, key_count, file_at}
+use Rattle.block_store.specs.Walks.{chain_count, walk, content, Within}
 use Rattle.block_store.specs.Chained.{blank, none, next_in, words_in, chain_at, first_in, blocks_in, chain_content, chain_file, chain_files, Linked, Full, Kept}
 use Rattle.block_store.specs.declared.cells.Block.{Block}
 use Rattle.block_store.specs.declared.cells.Chain.{Chain}
 use Rattle.block_store.proofs.FileFacts.{files_set, files_long, file_of}
-use Rattle.block_store.proofs.WalkFacts.{content_same, free_of, shift_within, shift_apart, rename_within, rename_apart}
+use Rattle.block_store.proofs.WalkFacts.{content_same, shift_within, shift_apart, rename_within, rename_apart}
 
 abbrev count : Chain → ℕ
 count e = e.blocks
@@ -26,8 +25,8 @@ two_le dir bs f t linked fl tl ne =
       ap count (get_or-set_other dir f t none none (λ e. ne (sym e))),
     )
 
-pub first_in_lem : (dir : List Chain) (bs : List Block) (f : ℕ) → Linked dir bs → f < chain_count → 0 < blocks_in dir f → first_in dir f < length bs
-first_in_lem dir bs f linked fl some = linked.3 f 0 fl some
+pub first_inside : (dir : List Chain) (bs : List Block) (f : ℕ) → Linked dir bs → f < chain_count → 0 < blocks_in dir f → first_in dir f < length bs
+first_inside dir bs f linked fl some = linked.3 f 0 fl some
 
 -- the first block of f becomes the first of t
 module _

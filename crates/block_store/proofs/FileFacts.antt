@@ -1,12 +1,12 @@
 -- The files of the chains, what they cost, and their parts.
-use Rattle.std.proofs.Common.{◌≡◌, ℕ, zero, suc, ◌+◌, ◌-◌, ◌*◌, ◌/◌, ◌<◌, ◌≤◌, min, Bool, true, false, cond, ltb, ◌⊎◌, List, [], ◌∷◌, ◌++◌, map, length, get_or, take, drop, set, is_some, Some, None, sum_by, sym, refl, ap, ◌∙◌, subst, inl, inr, arith}
-use Rattle.std.proofs.lemmas.List.{get_or-set_same, get_or-set_other, get_or_past, get_or-map, get_or-take, length-set, length-map, length-take, length-append, length-drop, set-set, set_past, set-get_or, take_all, take-take, take-append-drop, take-append-le, drop_all, drop_at, drop-drop, drop-take, ext_get_or}
+use Rattle.std.proofs.Common.{◌≡◌, ℕ, zero, suc, ◌+◌, ◌-◌, ◌*◌, ◌<◌, ◌≤◌, min, List, [], ◌∷◌, ◌++◌, map, length, get_or, take, drop, set, Some, None, sum_by, sym, refl, ap, ◌∙◌, subst, inl, inr, arith}
+use Rattle.std.proofs.lemmas.List.{get_or-set_same, get_or-set_other, get_or_past, get_or-map, get_or-take, length-set, length-map, length-take, length-append, set_past, take_all, take-take, take-append-drop, take-append-le, drop_all, drop_at, drop-drop, drop-take, ext_get_or}
 use Rattle.std.proofs.lemmas.List.Sums.{sum_by-cons, sum_by_more}
 use Rattle.std.proofs.lemmas.Bool.{cases_eq, cases_lt, cond-true, cond-false, lt-ltb, le-ltb}
-use Rattle.store.specs.Files.{File, Files, key_count, longest, cost, file_at, units_of, used, moved, length_of, words_of}
+use Rattle.store.specs.Files.{File, Files, key_count, cost, file_at, units_of, used, length_of, words_of}
 use Rattle.store.proofs.Facts.{used_set, part_none}
 use Rattle.block_store.specs.Walks.{chain_count, walk, content}
-use Rattle.block_store.specs.Chained.{blank, none, next_in, words_in, chain_at, first_in, blocks_in, chain_content, chain_file, chain_files, Linked, Full, Kept}
+use Rattle.block_store.specs.Chained.{none, next_in, words_in, chain_at, first_in, blocks_in, chain_content, chain_file, chain_files, Linked, Full, Kept}
 use Rattle.block_store.specs.declared.cells.Block.{Block}
 use Rattle.block_store.specs.declared.cells.Chain.{Chain}
 

@@ -1,5 +1,5 @@
 -- Which memory is a whole image, that may be taken up again.
-use Rattle.std.specs.Prelude.{◌≡◌, ℕ, ◌+◌, ◌<◌, ◌≤◌, Bool, true, false, not, ◌⊎◌, List, length, take, sum_by, count_by, slice_index_or}
+use Rattle.std.specs.Prelude.{◌≡◌, ℕ, ◌+◌, ◌<◌, Bool, true, false, not, ◌⊎◌, List, length, take, sum_by, count_by, slice_index_or}
 use Rattle.store.specs.Files.{key_count}
 use Rattle.block_store.specs.Walks.{walk}
 use Rattle.block_store.specs.Chained.{blank, next_in, words_in, chain_at, first_in, blocks_in, Full}

@@ -1,4 +1,4 @@
-use Rattle.std.proofs.Common.{◌≡◌, length, ap, ◌∙◌, arith, below_more}
+use Rattle.std.proofs.Common.{length, ap, ◌∙◌, arith, below_more}
 use Rattle.std.proofs.lemmas.List.{get_or-set_same, get_or-set_other}
 use Rattle.block_store.specs.Chained.{blank}
 use Rattle.block_store.proofs.blocks.link_all.Goals as goal

@@ -4,5 +4,8 @@ use Rattle.block_store.proofs.blocks.BlockStoreStore.carry.Goals as goal
 pub carry-requires : goal.carry-requires
 carry-requires c = record { sound = sound_of c.args.self.now.chains c.args.self.now.sound }
 
-pub invariant-of-self : goal.invariant-of-self
-invariant-of-self c = let m = c.carry.new.self in facts m.dir.now m.blocks.now c.carry.ensures.sound
+pub invariant_of-self : goal.invariant_of-self
+invariant_of-self c =
+    let m = c.carry.new.self in
+    let f = facts m.dir.now m.blocks.now c.carry.ensures.sound in
+    record { sound = f.0; keys = f.1; room = f.2 }

@@ -1,4 +1,4 @@
-use Rattle.std.proofs.Common.{◌≡◌, ◌<◌, is_some, refl, ap, ◌∙◌, arith}
+use Rattle.std.proofs.Common.{◌<◌, is_some, refl, ap, ◌∙◌, arith}
 use Rattle.store.specs.Files.{key_count}
 use Rattle.store.proofs.Facts.{moved_empty, moved_high, moved_onto, moved_cleared}
 use Rattle.block_store.specs.Chained.{files_in}

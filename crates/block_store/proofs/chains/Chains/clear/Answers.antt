@@ -1,5 +1,4 @@
-use Rattle.std.proofs.Common.{Some, None, sym, refl, ap, ◌∙◌, arith}
-use Rattle.std.proofs.lemmas.Bool.{cond-false, le-ltb}
+use Rattle.std.proofs.Common.{None, refl, ◌∙◌, arith}
 use Rattle.block_store.proofs.FileFacts.{clear_past, changed_files, changed_kept, empty_file}
 use Rattle.block_store.proofs.chains.Chains.clear.Goals as goal
 

@@ -1,4 +1,4 @@
-use Rattle.std.proofs.Common.{◌≡◌, ◌+◌, ◌-◌, ◌*◌, ◌<◌, ◌≤◌, length, take, drop, Some, sym, refl, ap, ◌∙◌, arith}
+use Rattle.std.proofs.Common.{◌≡◌, ◌-◌, ◌*◌, ◌<◌, length, take, drop, Some, sym, refl, ap, ◌∙◌, arith}
 use Rattle.std.proofs.lemmas.List.{drop_all}
 use Rattle.block_store.specs.Chained.{chain_of, content_of}
 use Rattle.block_store.proofs.FileFacts.{part_more, changed_files, changed_kept, whole_file}
@@ -17,8 +17,8 @@ loop-i-init c =
       refl,
     )
 
-pub overflow-mul-i : goal.overflow-mul-i
-overflow-mul-i c = omega (arith, c.requires.need, c.requires.short, c.loop-i.invariant.2)
+pub overflow_mul-i : goal.overflow_mul-i
+overflow_mul-i c = omega (arith, c.requires.need, c.requires.short, c.loop-i.invariant.2)
 
 pub chunk-part-requires : goal.chunk-part-requires
 chunk-part-requires c = omega (arith, c.requires.need, c.requires.short, c.loop-i.invariant.2)

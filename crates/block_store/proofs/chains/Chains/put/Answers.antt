@@ -1,14 +1,14 @@
-use Rattle.std.proofs.Common.{◌≡◌, ◌<◌, set, Some, None, refl, ap, ◌∙◌, arith}
+use Rattle.std.proofs.Common.{◌<◌, set, Some, None, refl, ap, ◌∙◌, arith}
 use Rattle.std.proofs.lemmas.List.{set-set}
-use Rattle.store.specs.Files.{key_count, used}
+use Rattle.store.specs.Files.{key_count}
 use Rattle.store.proofs.Facts.{admits_yes, admits_full}
 use Rattle.block_store.specs.Chained.{files_in, units_in}
 use Rattle.block_store.proofs.ChainFacts.{two_le}
 use Rattle.block_store.proofs.FileFacts.{put_units, clear_free}
 use Rattle.block_store.proofs.chains.Chains.put.Goals as goal
 
-pub overflow-add-self : goal.overflow-add-self
-overflow-add-self c = let m = c.args.self.now in omega (arith, two_le m.dir.now m.blocks.now key_count c.args.key c.requires.sound.0 (omega arith) (omega arith) (λ e. omega arith))
+pub overflow_add-self : goal.overflow_add-self
+overflow_add-self c = let m = c.args.self.now in omega (arith, two_le m.dir.now m.blocks.now key_count c.args.key c.requires.sound.0 (omega arith) (omega arith) (λ e. omega arith))
 
 pub returns-then-need-self : goal.returns-then-need-self
 returns-then-need-self c =
@@ -16,7 +16,7 @@ returns-then-need-self c =
     let kl : c.args.key < key_count = omega arith in
     record {
       sound = c.requires.sound;
-      answer = admits_full 4 (units_in m) (files_in m) c.args.key c.args.words.now (omega (arith, put_units m.dir.now m.blocks.now c.requires.sound c.args.key c.args.words.now kl, c.blocks-for-need.ensures));
+      answer = admits_full 4 (units_in m) (files_in m) c.args.key c.args.words.now (omega (arith, put_units m.dir.now m.blocks.now c.requires.sound c.args.key c.args.words.now kl, c.blocks_for-need.ensures));
       files = refl;
       units = refl;
     }
@@ -31,7 +31,7 @@ fill-requires c =
       sound = c.clear.ensures.sound;
       key = kl;
       short = c.if-n-gt-LONGEST.false;
-      goal = c.blocks-for-need.ensures;
+      need = c.blocks_for-need.ensures;
       empty = c.clear.ensures.empty kl;
       room = omega (arith, f);
     }
@@ -44,7 +44,7 @@ returns c =
     let kl : k < key_count = omega arith in
     record {
       sound = c.fill.ensures.sound;
-      answer = admits_yes 4 (units_in m) (files_in m) k ws c.if-n-gt-LONGEST.false kl (omega (arith, put_units m.dir.now m.blocks.now c.requires.sound k ws kl, c.blocks-for-need.ensures));
+      answer = admits_yes 4 (units_in m) (files_in m) k ws c.if-n-gt-LONGEST.false kl (omega (arith, put_units m.dir.now m.blocks.now c.requires.sound k ws kl, c.blocks_for-need.ensures));
       files = c.fill.ensures.files ∙ ap (λ fs. set fs k (Some ws)) c.clear.ensures.files ∙ set-set (files_in m) k None (Some ws);
       units = c.fill.ensures.units ∙ c.clear.ensures.units;
     }

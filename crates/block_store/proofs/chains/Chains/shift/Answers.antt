@@ -2,23 +2,23 @@ use Rattle.std.proofs.Common.{◌≡◌, ◌+◌, ◌-◌, false, refl, ap, ◌�
 use Rattle.std.proofs.lemmas.List.{length-set}
 use Rattle.block_store.specs.Chained.{chain_of}
 use Rattle.block_store.specs.declared.cells.Block.{Block}
-use Rattle.block_store.proofs.ChainFacts.{two_le, first_in_lem, at_from, at_to, at_other, shift_linked, shift_other, shift_content}
+use Rattle.block_store.proofs.ChainFacts.{two_le, first_inside, at_from, at_to, at_other, shift_linked, shift_other, shift_content}
 use Rattle.block_store.proofs.chains.Chains.shift.Goals as goal
 
-pub offset-bounds-self-source : goal.offset-bounds-self-source
-offset-bounds-self-source c = let m = c.args.self.now in omega (arith, first_in_lem m.dir.now m.blocks.now c.args.from c.requires.linked c.requires.from c.requires.some)
+pub offset_bounds-self-source : goal.offset_bounds-self-source
+offset_bounds-self-source c = let m = c.args.self.now in omega (arith, first_inside m.dir.now m.blocks.now c.args.from c.requires.linked c.requires.from c.requires.some)
 
 pub bounds-self-source : goal.bounds-self-source
-bounds-self-source c = let m = c.args.self.now in first_in_lem m.dir.now m.blocks.now c.args.from c.requires.linked c.requires.from c.requires.some
+bounds-self-source c = let m = c.args.self.now in first_inside m.dir.now m.blocks.now c.args.from c.requires.linked c.requires.from c.requires.some
 
-pub offset-bounds-self-source-2 : goal.offset-bounds-self-source-2
-offset-bounds-self-source-2 c = let m = c.args.self.now in omega (arith, first_in_lem m.dir.now m.blocks.now c.args.from c.requires.linked c.requires.from c.requires.some)
+pub offset_bounds-self-source-2 : goal.offset_bounds-self-source-2
+offset_bounds-self-source-2 c = let m = c.args.self.now in omega (arith, first_inside m.dir.now m.blocks.now c.args.from c.requires.linked c.requires.from c.requires.some)
 
 pub bounds-self-source-2 : goal.bounds-self-source-2
-bounds-self-source-2 c = let m = c.args.self.now in first_in_lem m.dir.now m.blocks.now c.args.from c.requires.linked c.requires.from c.requires.some
+bounds-self-source-2 c = let m = c.args.self.now in first_inside m.dir.now m.blocks.now c.args.from c.requires.linked c.requires.from c.requires.some
 
-pub overflow-add-self : goal.overflow-add-self
-overflow-add-self c = let m = c.args.self.now in omega (arith, c.requires.some, two_le m.dir.now m.blocks.now c.args.from c.args.to c.requires.linked c.requires.from c.requires.to c.requires.apart)
+pub overflow_add-self : goal.overflow_add-self
+overflow_add-self c = let m = c.args.self.now in omega (arith, c.requires.some, two_le m.dir.now m.blocks.now c.args.from c.args.to c.requires.linked c.requires.from c.requires.to c.requires.apart)
 
 pub returns : goal.returns
 returns c =
