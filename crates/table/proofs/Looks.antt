@@ -3,7 +3,7 @@ use Rattle.std.proofs.Common.{◌≡◌, ℕ, zero, suc, Bool, true, false, cond
 use Rattle.std.specs.List.{insert, remove}
 use Rattle.std.proofs.lemmas.Bool.{both_ways}
 use Rattle.table.specs.Order.{Total, meets}
-use Rattle.table.specs.Rows.{under, rising, Stands, Missing, lookup, Only}
+use Rattle.table.specs.Rows.{rising, Stands, Missing, lookup, Only}
 use Rattle.table.proofs.Heads.{rising_parts}
 use Rattle.table.proofs.Meets.{meets_sym, meets_meets, below_apart}
 use Rattle.table.proofs.Ranks.{under_stands}

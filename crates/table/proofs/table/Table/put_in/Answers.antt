@@ -8,5 +8,5 @@ returns g c = record {
   room = search rules;
   entered = λ sorted k ke at no_row.
       entered g.met.E.K.Key.total g.E.Element.keyed c.args.row c.args.self.now _ c.args.i k sorted ke at no_row c.requires.1 (search rules)
-      (c.open-at.ensures ∙ ap (λ xs. insert xs c.args.i c.args.row) c.used-n.ensures.rows);
+      (c.open_at.ensures ∙ ap (λ xs. insert xs c.args.i c.args.row) c.used-n.ensures.rows);
 }

@@ -4,8 +4,8 @@ use Rattle.table.proofs.Moves.{take_of_set}
 use Rattle.table.proofs.Changes.{replaced}
 use Rattle.table.proofs.table.Table.put_over.Goals as goal
 
-pub write-at-requires : goal.write-at-requires
-write-at-requires g c = omega (arith, c.requires, length-take c.args.self.now.len c.args.self.now.rows.now)
+pub write_at-requires : goal.write_at-requires
+write_at-requires g c = omega (arith, c.requires, length-take c.args.self.now.len c.args.self.now.rows.now)
 
 pub returns : goal.returns
 returns g c =
@@ -16,5 +16,5 @@ returns g c =
       room = search rules;
       replaced = λ sorted k ke there.
           replaced g.met.E.K.Key.total g.E.Element.keyed c.args.row t _ c.args.i old k sorted ke there at (search rules)
-          (ap (take t.len) c.write-at.ensures ∙ take_of_set t.len t.rows.now c.args.i c.args.row);
+          (ap (take t.len) c.write_at.ensures ∙ take_of_set t.len t.rows.now c.args.i c.args.row);
     }

@@ -13,6 +13,6 @@ returns g c =
       room = search rules;
       removed = λ sorted k there.
           removed_key g.met.E.K.Key.total g.E.Element.keyed k t _ c.args.i old sorted there at (search rules)
-          (c.close-at.ensures ∙ ap (λ xs. remove xs c.args.i) c.used-n.ensures.rows);
+          (c.close_at.ensures ∙ ap (λ xs. remove xs c.args.i) c.used-n.ensures.rows);
       found = λ sorted. found_self g.met.E.K.Key.total g.E.Element.keyed (live t) c.args.i old sorted.1 c.requires at;
     }
