@@ -1,5 +1,5 @@
 -- Rows that tell of a call.
-use Rattle.std.proofs.Common.{◌≡◌, ℕ, Bool, true, false, cond, not, ◌&&◌, is_some, Some, None, Decides, Option, sym, refl, ap, ◌∙◌, arith}
+use Rattle.std.proofs.Common.{◌≡◌, ℕ, Bool, true, false, cond, ◌&&◌, is_some, Some, None, Decides, Option, sym, refl, ap, arith}
 use Rattle.std.specs.Str.{bytes_eq}
 use Rattle.std.proofs.lemmas.Slice.Eq.{bytes_eq-Decides}
 use Rattle.std.proofs.lemmas.Bool.{true≢false, and_from, and_left, and_right}
@@ -10,7 +10,6 @@ use Rattle.base.specs.declared.version.Version.{Version}
 use Rattle.host.specs.declared.calls.Argument.{Argument}
 use Rattle.host.specs.declared.calls.Argument.TheVariants.{Version as with_version}
 use Rattle.host.specs.declared.calls.Call.{Call}
-use Rattle.host.specs.declared.line.ArgumentRow.{ArgumentRow}
 use Rattle.host.specs.declared.line.ArgumentRow.TheVariants.{Version as version_of}
 use Rattle.host.specs.declared.line.Line.{Line}
 use Rattle.host.specs.Hosts.{argument_row, line, call_line}

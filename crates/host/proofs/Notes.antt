@@ -1,5 +1,5 @@
 -- Runs after runs.
-use Rattle.std.proofs.Common.{List, [], ◌∷◌, ◌++◌}
+use Rattle.std.proofs.Common.{List, ◌++◌}
 use Rattle.host.specs.declared.line.Line.{Line}
 use Rattle.host.specs.Hosts.{Meaning, Runs, none, more}
 

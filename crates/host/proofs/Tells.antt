@@ -1,5 +1,5 @@
 -- Parts that are equal make equal lines.
-use Rattle.std.proofs.Common.{◌≡◌, ℕ, Bool, true, false, cond, ◌&&◌, eqb, Decides, sym, refl, ap, ◌∙◌}
+use Rattle.std.proofs.Common.{◌≡◌, ℕ, true, cond, eqb, sym, refl, ap, ◌∙◌}
 use Rattle.std.proofs.lemmas.Slice.Eq.{bytes_eq-Decides}
 use Rattle.std.proofs.lemmas.Bool.{true≢false, and_parts, and_from, eqb-true, eq-eqb}
 use Rattle.base.specs.declared.texts.ShortText.{ShortText}
@@ -7,13 +7,12 @@ use Rattle.host.specs.declared.calls.Script.{Script}
 use Rattle.host.specs.declared.calls.Script.TheVariants.{Preinst, Postinst, Prerm, Postrm}
 use Rattle.host.specs.declared.calls.Action.{Action}
 use Rattle.host.specs.declared.calls.Action.TheVariants.{Install, Upgrade, Configure, Remove, Purge, AbortInstall, AbortUpgrade, AbortRemove, FailedUpgrade}
-use Rattle.host.specs.declared.calls.Call.{Call}
 use Rattle.host.specs.declared.line.ArgumentRow.{ArgumentRow}
 use Rattle.host.specs.declared.line.ArgumentRow.TheVariants.{Version, Null, Nothing}
 use Rattle.host.specs.declared.line.Line.{Line}
 use Rattle.host.specs.Calls.{script_number, action_number}
 use Rattle.host.specs.Hosts.{line}
-use Rattle.host.specs.Rows.{same_row, same_argument, same_call, tells, TellsItsCall}
+use Rattle.host.specs.Rows.{same_row, same_argument, same_call, TellsItsCall}
 
 row_same : (a b : ShortText) → same_row a b ≡ true → a ≡ b
 row_same a b e = λ i. record { bytes = (bytes_eq-Decides a.bytes b.bytes).0 e i }

@@ -1,5 +1,5 @@
 -- Which rows tell of a call, and of which.
-use Rattle.std.specs.Prelude.{◌≡◌, ℕ, Bool, true, false, cond, ◌&&◌, Some, None, Decides, Option, ◌==◌}
+use Rattle.std.specs.Prelude.{◌≡◌, Bool, true, false, cond, ◌&&◌, Some, None, Decides, Option, ◌==◌}
 use Rattle.std.specs.Str.{bytes_eq}
 use Rattle.base.specs.Texts.{name_row, version_row}
 use Rattle.base.specs.declared.texts.ShortText.{ShortText}

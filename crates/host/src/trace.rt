@@ -54,7 +54,7 @@ pub fn ask<H: Host>(
     used: &mut usize,
     call: Call,
 ) -> Option<Status>
-    ensures asked { Asked call result (meaning host.old) (meaning host.new) trace.old used.old trace.new used.new }
+    ensures asked { Asked call result (H.meaning host.old) (H.meaning host.new) trace.old used.old trace.new used.new }
     ensures kept { Keeps result host.old host.new }
 {
     if *used >= trace.len() {

@@ -1,16 +1,16 @@
 use Rattle.host.proofs.Checks.{call_some, no_name, no_version, no_argument}
 use Rattle.host.proofs.line.Line.call.Goals as goal
 
-pub returns-in-err-name : goal.returns-in-err-name
-returns-in-err-name c = rw c.from-residual.ensures (no_name c.args.self.now c.in-err-name.ensures)
+pub returns-in_err-name : goal.returns-in_err-name
+returns-in_err-name c = rw c.from_residual.ensures (no_name c.args.self.now c.in_err-name.ensures)
 
-pub returns-in-err-version : goal.returns-in-err-version
-returns-in-err-version c = rw c.from-residual-in-err-version.ensures (no_version c.args.self.now c.in-err-version.ensures)
+pub returns-in_err-version : goal.returns-in_err-version
+returns-in_err-version c = rw c.from_residual-in_err-version.ensures (no_version c.args.self.now c.in_err-version.ensures)
 
-pub returns-in-err-argument : goal.returns-in-err-argument
-returns-in-err-argument c = rw c.from-residual-in-err-argument.ensures (no_argument c.args.self.now c.in-err-argument.ensures)
+pub returns-in_err-argument : goal.returns-in_err-argument
+returns-in_err-argument c = rw c.from_residual-in_err-argument.ensures (no_argument c.args.self.now c.in_err-argument.ensures)
 
 pub returns : goal.returns
 returns c =
-    call_some c.in-ok-name.name c.in-ok-version.version c.in-ok-argument.argument c.args.self.now
-    c.in-ok-name.ensures c.in-ok-version.ensures c.in-ok-argument.ensures
+    call_some c.in_ok-name.name c.in_ok-version.version c.in_ok-argument.argument c.args.self.now
+    c.in_ok-name.ensures c.in_ok-version.ensures c.in_ok-argument.ensures
