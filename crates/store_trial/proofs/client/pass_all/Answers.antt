@@ -8,8 +8,8 @@ loop-path-init g c = (refl, refl)
 
 pub loop-path-preserved : goal.loop-path-preserved
 loop-path-preserved g c = (
-  c.pass-one.ensures.sides ∙ over_more (passed c.args.pass) c.args.paths.now c.loop-path.path-index _ _ c.loop-path-test.true c.loop-path.invariant.0,
-  c.pass-one.ensures.units ∙ c.loop-path.invariant.1,
+  c.pass_one.ensures.sides ∙ over_more (passed c.args.pass) c.args.paths.now c.loop-path.path-index _ _ c.loop-path-test.true c.loop-path.invariant.0,
+  c.pass_one.ensures.units ∙ c.loop-path.invariant.1,
 )
 
 pub returns : goal.returns

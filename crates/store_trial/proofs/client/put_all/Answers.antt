@@ -9,6 +9,6 @@ loop-i-init g c = (refl, refl)
 
 pub loop-i-preserved : goal.loop-i-preserved
 loop-i-preserved g c = (
-  c.if-not-put-side.ensures.sides ∙ over_more (with_side Place (Some c.args.words.now)) c.args.paths.now c.loop-i.i _ _ c.loop-i-test.true c.loop-i.invariant.0,
-  c.put-side.ensures.units ∙ c.loop-i.invariant.1,
+  c.if-not-put_side.ensures.sides ∙ over_more (with_side Place (Some c.args.words.now)) c.args.paths.now c.loop-i.i _ _ c.loop-i-test.true c.loop-i.invariant.0,
+  c.put_side.ensures.units ∙ c.loop-i.invariant.1,
 )

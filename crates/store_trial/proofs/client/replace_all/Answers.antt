@@ -4,16 +4,16 @@ use Rattle.store.specs.Sides.{sides_at}
 use Rattle.store_trial.proofs.Rounds.{all_replaced, all_found}
 use Rattle.store_trial.proofs.client.replace_all.Goals as goal
 
-pub returns-then-put-all-paths : goal.returns-then-put-all-paths
-returns-then-put-all-paths g c = record {
-  done = λ t d. all_replaced c.args.words.now c.args.paths.now (sides_at (g.S.Store.files c.args.store.now)) d c.put-all.result _ _ c.if-put-all-paths.true c.pass-all.ensures.sides c.put-all.ensures.sides;
+pub returns-then-put_all-paths : goal.returns-then-put_all-paths
+returns-then-put_all-paths g c = record {
+  done = λ t d. all_replaced c.args.words.now c.args.paths.now (sides_at (g.S.Store.files c.args.store.now)) d c.put_all.result _ _ c.if-put_all-paths.true c.pass_all.ensures.sides c.put_all.ensures.sides;
   found = λ t. absurd (true≢false t);
-  units = c.put-all.ensures.units ∙ c.pass-all.ensures.units;
+  units = c.put_all.ensures.units ∙ c.pass_all.ensures.units;
 }
 
 pub returns : goal.returns
 returns g c = record {
   done = λ t. absurd (false≢true t);
-  found = λ t d. all_found c.args.words.now c.args.paths.now (sides_at (g.S.Store.files c.args.store.now)) d c.put-all.result _ _ _ c.pass-all.ensures.sides c.put-all.ensures.sides c.pass-all-2.ensures.sides;
-  units = c.pass-all-2.ensures.units ∙ c.put-all.ensures.units ∙ c.pass-all.ensures.units;
+  found = λ t d. all_found c.args.words.now c.args.paths.now (sides_at (g.S.Store.files c.args.store.now)) d c.put_all.result _ _ _ c.pass_all.ensures.sides c.put_all.ensures.sides c.pass_all-2.ensures.sides;
+  units = c.pass_all-2.ensures.units ∙ c.put_all.ensures.units ∙ c.pass_all.ensures.units;
 }
