@@ -1,5 +1,5 @@
 -- Which rows are records.
-use Rattle.std.specs.Prelude.{◌≡◌, Bool, true, false, cond, replicate, Some, None, Option}
+use Rattle.std.specs.Prelude.{◌≡◌, true, false, cond, replicate, None, Option}
 use Rattle.base.specs.declared.texts.ShortText.{ShortText}
 use Rattle.base.specs.declared.texts.TextKind.TheVariants.{Version}
 use Rattle.base.specs.Named.{row_if}

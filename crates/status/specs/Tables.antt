@@ -1,6 +1,6 @@
 -- Which tables of records and owned paths are well-formed.
 use Rattle.std.specs.Prelude.{◌≡◌, ℕ, true, List, Some, None, Option, nat_lt}
-use Rattle.std.specs.List.{AllByRecursion as All}
+use Rattle.std.specs.List.{AllByRecursion}
 use Rattle.base.specs.declared.texts.ShortText.{ShortText}
 use Rattle.base.specs.declared.files.FileKind.{FileKind}
 use Rattle.base.specs.declared.files.FileKind.TheVariants.{Conffile}
@@ -29,5 +29,5 @@ pub record Kept (records : List Record) (owners : List Owned) : Type 0 where
   -- names rise, and so do paths
   pub ranked : rising by_bytes (λ r. r.name) records ≡ true
   pub listed : rising nat_lt (λ o. o.path) owners ≡ true
-  pub sound : All Sound records
-  pub owned : All (λ o. MayOwn (record_of o.owner records) o.kind) owners
+  pub sound : AllByRecursion Sound records
+  pub owned : AllByRecursion (λ o. MayOwn (record_of o.owner records) o.kind) owners
