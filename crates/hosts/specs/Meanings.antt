@@ -1,5 +1,5 @@
 -- What each host would answer now, and what a run leaves of it.
-use Rattle.std.specs.Prelude.{◌≡◌, ℕ, ◌+◌, ◌%◌, ◌^◌, ◌<◌, ◌≤◌, Bool, true, false, cond, ◌&&◌, ◌||◌, List, [], ◌∷◌, length, drop, Some, None, Ok, Err, Option, Result, ◌==◌, nat_lt, slice_index}
+use Rattle.std.specs.Prelude.{◌≡◌, ℕ, ◌+◌, ◌%◌, ◌^◌, ◌<◌, ◌≤◌, Bool, false, cond, ◌&&◌, ◌||◌, List, [], ◌∷◌, length, drop, Some, None, Ok, Err, Result, ◌==◌, nat_lt, slice_index}
 use Rattle.base.specs.Refusals.{word_refusal}
 use Rattle.base.specs.declared.reasons.Reason.TheVariants.{OutsideLimits}
 use Rattle.base.specs.declared.reasons.Refusal.{Refusal}
