@@ -1,14 +1,14 @@
 -- What a list of changes comes to, path by path.
-use Rattle.std.proofs.Common.{◌≡◌, ℕ, zero, suc, ◌+◌, ◌<◌, ◌≤◌, Bool, true, false, cond, not, ◌&&◌, ◌||◌, eqb, List, [], ◌∷◌, length, get_or, take, Some, None, sym, refl, ap, ◌∙◌, subst, arith}
+use Rattle.std.proofs.Common.{◌≡◌, ℕ, zero, suc, ◌+◌, ◌<◌, ◌≤◌, Bool, true, false, cond, not, ◌||◌, eqb, List, [], ◌∷◌, length, get_or, take, Some, None, sym, refl, ap, ◌∙◌, subst, arith}
 use mathlib.Core.Path.{fun_ext}
 use Rattle.std.proofs.lemmas.List.{take_all}
 use Rattle.std.proofs.lemmas.List.Sums.{fold_more}
-use Rattle.std.proofs.lemmas.Bool.{eqb-true, and_parts, not-true, or_parts, both_ways, cond-true, cond-false}
+use Rattle.std.proofs.lemmas.Bool.{eqb-true, and_parts, not-true, or_parts, cond-true, cond-false}
 use Rattle.store.specs.Files.{File}
 use Rattle.store.specs.Sides.{Sides, with_side, carried, change}
 use Rattle.store.specs.declared.side.Side.TheVariants.{Place, Aside}
 use Rattle.store_trial.specs.Passes.{passed, over_all, member, distinct, replaced}
-use Rattle.store_trial.specs.declared.pass.Pass.TheVariants.{SetAside, PutBack, Discard}
+use Rattle.store_trial.specs.declared.pass.Pass.TheVariants.{SetAside, PutBack}
 
 -- two changes of one path are one
 twice : (p : ℕ) (g h : Sides → Sides) (f : ℕ → Sides) → change p g (change p h f) ≡ change p (λ x. g (h x)) f
@@ -25,8 +25,8 @@ back_one p f h k a b = b ∙ ap (change p (carried Aside Place)) a ∙ twice p (
 pub over_more : (g : Sides → Sides) (ps : List ℕ) (i : ℕ) (f h : ℕ → Sides) → i < length ps → h ≡ over_all g (take i ps) f → change (get_or ps i 0) g h ≡ over_all g (take (i + 1) ps) f
 over_more g ps i f h l e = ap (change (get_or ps i 0) g) e ∙ sym (fold_more (λ (k : ℕ → Sides) (p : ℕ). change p g k) f ps i 0 l)
 
-pub over_all_lem : (g : Sides → Sides) (ps : List ℕ) (i : ℕ) (f h : ℕ → Sides) → length ps ≤ i → h ≡ over_all g (take i ps) f → h ≡ over_all g ps f
-over_all_lem g ps i f h l e = e ∙ ap (λ qs. over_all g qs f) (take_all i ps l)
+pub over_whole : (g : Sides → Sides) (ps : List ℕ) (i : ℕ) (f h : ℕ → Sides) → length ps ≤ i → h ≡ over_all g (take i ps) f → h ≡ over_all g ps f
+over_whole g ps i f h l e = e ∙ ap (λ qs. over_all g qs f) (take_all i ps l)
 
 -- a path that is not in the list stays
 untouched : (g : Sides → Sides) (ps : List ℕ) (f : ℕ → Sides) (q : ℕ) → member q ps ≡ false → over_all g ps f q ≡ f q
@@ -93,7 +93,7 @@ module _ (ws ps : List ℕ) (f : ℕ → Sides) (d : distinct ps ≡ true) where
       go false m = untouched (with_side Place (Some ws)) (take n ps) (over_all (passed SetAside) ps f) q (not_in_front q ps n m) ∙ untouched (passed SetAside) ps f q m
 
   pub all_replaced : (n : ℕ) (h k : ℕ → Sides) → n ≡ length ps → h ≡ over_all (passed SetAside) ps f → k ≡ over_all (with_side Place (Some ws)) (take n ps) h → (q : ℕ) → k q ≡ replaced ws ps f q
-  all_replaced n h k e a b q = ap (λ (z : ℕ → Sides). z q) (over_all_lem (with_side Place (Some ws)) ps n h k (omega arith) b ∙ ap (over_all (with_side Place (Some ws)) ps) a) ∙ is_replaced q
+  all_replaced n h k e a b q = ap (λ (z : ℕ → Sides). z q) (over_whole (with_side Place (Some ws)) ps n h k (omega arith) b ∙ ap (over_all (with_side Place (Some ws)) ps) a) ∙ is_replaced q
 
   pub all_found : (n : ℕ) (h k l : ℕ → Sides) → h ≡ over_all (passed SetAside) ps f → k ≡ over_all (with_side Place (Some ws)) (take n ps) h → l ≡ over_all (passed PutBack) ps k → ((p : ℕ) → member p ps ≡ true → (f p).aside ≡ None) → (q : ℕ) → l q ≡ f q
   all_found n h k l a b c empty q =

@@ -1,6 +1,6 @@
-use Rattle.std.proofs.Common.{◌≡◌, refl, ◌∙◌}
+use Rattle.std.proofs.Common.{refl, ◌∙◌}
 use Rattle.store_trial.specs.Passes.{passed}
-use Rattle.store_trial.proofs.Rounds.{over_more, over_all_lem}
+use Rattle.store_trial.proofs.Rounds.{over_more, over_whole}
 use Rattle.store_trial.proofs.client.pass_all.Goals as goal
 
 pub loop-path-init : goal.loop-path-init
@@ -13,4 +13,4 @@ loop-path-preserved g c = (
 )
 
 pub returns : goal.returns
-returns g c = record { sides = over_all_lem (passed c.args.pass) c.args.paths.now c.loop-path.path-index _ _ c.loop-path-test.false c.loop-path.invariant.0; units = c.loop-path.invariant.1 }
+returns g c = record { sides = over_whole (passed c.args.pass) c.args.paths.now c.loop-path.path-index _ _ c.loop-path-test.false c.loop-path.invariant.0; units = c.loop-path.invariant.1 }

@@ -1,4 +1,4 @@
-use Rattle.std.proofs.Common.{◌≡◌, sym, ap, ◌∙◌}
+use Rattle.std.proofs.Common.{sym, ap, ◌∙◌}
 use Rattle.store.specs.Sides.{sides_at, change}
 use Rattle.store_trial.proofs.Rounds.{back_one}
 use Rattle.store_trial.specs.Passes.{passed}

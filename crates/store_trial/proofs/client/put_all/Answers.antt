@@ -1,7 +1,7 @@
-use Rattle.std.proofs.Common.{◌≡◌, ℕ, ◌≤◌, false, get_or, Some, sym, refl, ap, ◌∙◌, arith}
-use Rattle.store.specs.Sides.{sides_at, with_side, admits_side}
+use Rattle.std.proofs.Common.{Some, refl, ◌∙◌}
+use Rattle.store.specs.Sides.{with_side}
 use Rattle.store.specs.declared.side.Side.TheVariants.{Place}
-use Rattle.store_trial.proofs.Rounds.{over_more, over_all_lem}
+use Rattle.store_trial.proofs.Rounds.{over_more}
 use Rattle.store_trial.proofs.client.put_all.Goals as goal
 
 pub loop-i-init : goal.loop-i-init
