@@ -1,20 +1,18 @@
 -- Every package within the rules is accepted in its encoding, and read back as it was.
-use Rattle.std.proofs.Common.{◌≡◌, ℕ, zero, suc, ◌+◌, ◌-◌, ◌*◌, ◌/◌, ◌%◌, ◌^◌, ◌<◌, ◌≤◌, min, Bool, true, false, cond, ◌&&◌, ◌||◌, eqb, ltb, leb, List, [], ◌∷◌, ◌++◌, length, Some, None, Option, sym, refl, ap, ◌∙◌, subst, ap₂, append_assoc, append-nil, add-zero, arith, length-append}
+use Rattle.std.proofs.Common.{◌≡◌, ℕ, suc, ◌+◌, ◌*◌, ◌^◌, ◌<◌, ◌≤◌, Bool, true, false, cond, eqb, List, [], ◌∷◌, ◌++◌, length, None, sym, refl, ap, ◌∙◌, subst, ap₂, append_assoc, add-zero, arith, length-append}
 use Rattle.std.specs.List.{flat_map, AllByRecursion as All}
-use Rattle.std.proofs.lemmas.Bool.{and_from, and_parts, eq-eqb, ne_eqb, le-leb, leb-true}
+use Rattle.std.proofs.lemmas.Bool.{and_parts, ne_eqb}
 use Rattle.std.proofs.lemmas.Bool.Decides.{nat_tests}
 use Rattle.base.specs.declared.files.FileKind.{FileKind}
-use Rattle.base.specs.declared.reasons.Reason.TheVariants.{WrongWord, OutsideLimits}
-use Rattle.base.specs.declared.reasons.Refusal.{Refusal}
 use Rattle.base.specs.declared.texts.TextKind.{TextKind}
 use Rattle.base.specs.declared.texts.TextKind.TheVariants.{Name, Version}
-use Rattle.base.specs.Texts.{all, allowed, fitting, may_begin, may_follow, spelled}
-use Rattle.package.specs.declared.rules.TextRule.TheVariants.{Spelled, Free}
-use Rattle.package.specs.Words.{is_end, is_head, is_file, content_length, path, file_kind, name_length, version_length}
-use Rattle.package.specs.Checks.{Due, package_head, name_head, text, item, nothing, fault, contents, next, refusal}
-use Rattle.package.specs.Packages.{Carried, Contents, Fits, Rising, Within, text_words, file_words, end_word, head_word, body, encoded, name_encoded, text_in, behind_text, files_in, name_due, version_due, name_in, version_in, package_in}
-use Rattle.package.proofs.Tests.{must_pass, refusal_on}
-use Rattle.encoding.proofs.Made.{file_word, file_length, file_path, file_back, file_is, file_no_end, file_passes, end_passes, end_is, end_back, head_is, head_name, head_version}
+use Rattle.base.specs.Texts.{all, fitting, may_begin, may_follow, spelled}
+use Rattle.package.specs.declared.rules.TextRule.TheVariants.{Free}
+use Rattle.package.specs.Words.{is_end, content_length, path, file_kind}
+use Rattle.package.specs.Checks.{Due, text, item, nothing, contents, next, refusal}
+use Rattle.package.specs.Packages.{Carried, Fits, Rising, text_words, file_words, end_word, text_in, files_in}
+use Rattle.package.proofs.Tests.{refusal_on}
+use Rattle.encoding.proofs.Made.{file_word, file_length, file_path, file_back, file_is, file_no_end, file_passes, end_passes, end_is, end_back}
 use Rattle.encoding.proofs.Ran.{Ran}
 use Rattle.encoding.proofs.Encodes.{run_text, some_words}
 

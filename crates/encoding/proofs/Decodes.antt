@@ -1,19 +1,16 @@
 -- Words that pass the checks are the encoding of what stands in them: texts and files.
-use Rattle.std.proofs.Common.{◌≡◌, ℕ, zero, suc, ◌+◌, ◌-◌, ◌*◌, ◌<◌, ◌≤◌, min, Bool, true, false, cond, ◌&&◌, ◌||◌, eqb, ltb, leb, List, [], ◌∷◌, ◌++◌, length, take, Some, None, Option, sym, refl, ap, ◌∙◌, subst, ap₂, append_assoc, append-nil, add-zero, arith, length-append}
-use Rattle.std.specs.List.{flat_map, AllByRecursion as All}
+use Rattle.std.proofs.Common.{◌≡◌, ℕ, zero, suc, ◌+◌, ◌-◌, ◌*◌, ◌<◌, ◌≤◌, min, Bool, true, false, cond, ◌&&◌, ◌||◌, eqb, ltb, leb, List, [], ◌∷◌, ◌++◌, length, None, sym, refl, ap, ◌∙◌, subst, ap₂, append-nil, add-zero, arith, length-append}
+use Rattle.std.specs.List.{AllByRecursion as All}
 use Rattle.std.proofs.ByRecursion.{All-append, All-take}
 use Rattle.std.proofs.lemmas.List.{length-take}
-use Rattle.std.proofs.lemmas.Bool.{and_parts, eqb-true, eqb-false, leb-true, leb-false, ltb-true, or_cases, both_ways}
-use Rattle.base.specs.declared.reasons.Reason.{Reason}
+use Rattle.std.proofs.lemmas.Bool.{and_parts, eqb-true, eqb-false, leb-true, leb-false, ltb-true, both_ways}
 use Rattle.base.specs.declared.reasons.Reason.TheVariants.{EndsEarly, WrongWord, OutsideLimits, PathNotRising, WrongEndCount}
-use Rattle.base.specs.declared.reasons.Refusal.{Refusal}
 use Rattle.base.specs.Refusals.{word_refusal}
-use Rattle.base.specs.Texts.{between}
 use Rattle.package.specs.declared.rules.TextRule.{TextRule}
 use Rattle.package.specs.declared.rules.TextRule.TheVariants.{Spelled, Free}
 use Rattle.package.specs.Words.{three, bytes, byte_count, is_text, is_file, is_end, end_count, file_kind, content_length, path}
-use Rattle.package.specs.Checks.{Due, text, item, nothing, must, contents, next, text_fault, item_fault, right_count, right_bytes, refusal}
-use Rattle.package.specs.Packages.{Carried, Fits, Rising, text_words, file_words, end_word, text_in, behind_text, files_in}
+use Rattle.package.specs.Checks.{Due, text, item, nothing, must, contents, item_fault, right_count, right_bytes, refusal}
+use Rattle.package.specs.Packages.{Carried, Fits, Rising, text_words, end_word, text_in, behind_text, files_in}
 use Rattle.package.proofs.Tests.{some_none, must_none, refusal_none}
 use Rattle.package.proofs.TextSound.{text_none, right_join}
 use Rattle.encoding.proofs.Made.{word_text, word_front, three_low, end_made, file_made, file_word}

@@ -1,16 +1,15 @@
 -- A whole package, and a name alone, from what they carry to their words and back.
-use Rattle.std.proofs.Common.{◌≡◌, ℕ, suc, ◌+◌, ◌*◌, ◌^◌, ◌<◌, ◌≤◌, Bool, true, false, cond, ◌&&◌, eqb, List, [], ◌∷◌, ◌++◌, length, Some, None, Option, sym, refl, ap, ◌∙◌, ap₂, append_assoc, append-nil, arith, length-append}
+use Rattle.std.proofs.Common.{◌≡◌, ℕ, ◌+◌, ◌*◌, ◌≤◌, Bool, true, false, ◌&&◌, eqb, List, [], ◌∷◌, ◌++◌, length, None, sym, refl, ap, ◌∙◌, ap₂, append_assoc, append-nil, arith, length-append}
 use Rattle.std.specs.List.{flat_map, AllByRecursion as All}
 use Rattle.std.proofs.lemmas.Bool.{and_from, and_parts, eq-eqb}
 use Rattle.base.specs.declared.reasons.Reason.TheVariants.{WrongWord, OutsideLimits}
-use Rattle.base.specs.declared.reasons.Refusal.{Refusal}
 use Rattle.base.specs.declared.texts.TextKind.{TextKind}
 use Rattle.base.specs.declared.texts.TextKind.TheVariants.{Name, Version}
 use Rattle.base.specs.Texts.{allowed, fitting, spelled}
 use Rattle.package.specs.declared.rules.TextRule.TheVariants.{Spelled}
 use Rattle.package.specs.Words.{is_head, name_length, version_length}
 use Rattle.package.specs.Checks.{Due, package_head, name_head, text, item, nothing, head_fault, fault, next, refusal}
-use Rattle.package.specs.Packages.{Carried, Contents, Fits, Rising, Within, text_words, file_words, end_word, head_word, encoded, name_encoded, text_in, behind_text, files_in, name_due, version_due, name_in, version_in, package_in}
+use Rattle.package.specs.Packages.{Carried, Contents, Fits, Rising, Within, text_words, file_words, end_word, head_word, encoded, name_encoded, text_in, behind_text, files_in, name_in, version_in, package_in}
 use Rattle.package.specs.Readings.{package_refusal, name_refusal}
 use Rattle.package.proofs.Tests.{must_pass, refusal_on}
 use Rattle.encoding.proofs.Made.{head_is, head_name, head_version}

@@ -1,5 +1,5 @@
 -- Packages by what they carry, and their encoding in words.
-use Rattle.std.specs.Prelude.{◌≡◌, ℕ, ◌+◌, ◌-◌, ◌*◌, ◌^◌, ◌<◌, ◌≤◌, Bool, true, false, cond, List, [], ◌∷◌, ◌++◌, length, nat_le}
+use Rattle.std.specs.Prelude.{◌≡◌, ℕ, ◌+◌, ◌-◌, ◌*◌, ◌^◌, ◌<◌, ◌≤◌, true, false, cond, List, [], ◌∷◌, ◌++◌, length, nat_le}
 use Rattle.std.specs.List.{flat_map, AllByRecursion as All}
 use Rattle.base.specs.declared.files.FileKind.{FileKind}
 use Rattle.base.specs.declared.files.FileKind.TheVariants.{Plain, Conffile}
