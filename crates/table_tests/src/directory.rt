@@ -28,7 +28,7 @@ impl<'a> Directory<'a> {
     }
 
     pub fn note(&mut self, entry: Record) -> Result<usize, Refused>
-        ensures* { λ r. ⌜ Inserts by_bytes (λ r. r.name) entry self.old.records r self.new.records ⌝ }
+        ensures { Inserts by_bytes (λ r. r.name) entry self.old.records result self.new.records }
     {
         self.records.insert(entry)
     }

@@ -45,7 +45,10 @@ fn paths_rise_and_the_full_table_refuses(rt: HostRuntime) {
             Err(Refused::Present(1)),
         ]
     );
-    assert_eq!(rt; owners.rows(), &[owner(0, 3), owner(20, 1), owner(255, 2)]);
+    assert_eq!(rt;
+        owners.rows(),
+        [owner(0, 3), owner(20, 1), owner(255, 2)].as_slice()
+    );
     assert_eq!(rt;
         [owners.find(0), owners.find(21), owners.find(255)],
         [Some(owner(0, 3)), None, Some(owner(255, 2))]
@@ -67,7 +70,7 @@ fn a_row_changes_or_goes_and_the_others_stay(rt: HostRuntime) {
         ],
         [Some(owner(2, 2)), Some(owner(1, 1)), Some(owner(4, 4))]
     );
-    assert_eq!(rt; owners.rows(), &[owner(2, 7), owner(3, 3)]);
+    assert_eq!(rt; owners.rows(), [owner(2, 7), owner(3, 3)].as_slice());
     assert_eq!(rt; [owners.find(2), owners.find(4)], [Some(owner(2, 7)), None]);
 }
 
