@@ -1,5 +1,5 @@
 -- What words hold is what was read from them.
-use Rattle.std.proofs.Common.{◌≡◌, ℕ, zero, suc, ◌+◌, ◌≤◌, Bool, true, false, cond, List, [], ◌∷◌, ◌++◌, map, length, take, drop, None, sym, refl, ap, ◌∙◌, ap₂, le_refl, arith}
+use Rattle.std.proofs.Common.{◌≡◌, ℕ, zero, suc, ◌+◌, ◌≤◌, Bool, true, false, cond, List, [], ◌∷◌, map, length, take, drop, None, sym, refl, ap, ◌∙◌, ap₂, le_refl, arith}
 use lib.Seq.{take-append_seam, drop-append_seam}
 use Rattle.std.proofs.lemmas.Bool.{ne_eqb}
 use Rattle.base.specs.declared.name.Name.{Name}
@@ -18,7 +18,7 @@ use Rattle.package.specs.Readings.{Reading, Naming, package_refusal}
 use Rattle.package.proofs.Tests.{refusal_none}
 use Rattle.encoding.proofs.Decodes.{content_decodes}
 use Rattle.encoding.proofs.Exact.{accepted_encoded}
-use Rattle.steps.specs.Goods.{Goods, stored, row_holding, name_row_in, goods_in}
+use Rattle.steps.specs.Goods.{stored, row_holding, name_row_in, goods_in}
 use Rattle.steps.specs.Wares.{Ware, wares, files_of, Distinct}
 use Rattle.steps.proofs.Readings.{passed_over}
 use Rattle.steps.proofs.Restores.{Apart}

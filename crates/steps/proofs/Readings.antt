@@ -1,15 +1,14 @@
 -- The reader's answers, and the files in words.
-use Rattle.std.proofs.Common.{◌≡◌, ℕ, zero, suc, ◌+◌, ◌-◌, ◌<◌, Bool, true, false, cond, List, [], ◌∷◌, length, take, drop, Some, None, Ok, Err, sym, refl, ap, ◌∙◌, subst, arith}
+use Rattle.std.proofs.Common.{◌≡◌, ℕ, zero, suc, ◌+◌, Bool, true, false, cond, List, [], ◌∷◌, take, drop, None, Ok, Err, sym, refl, ap, ◌∙◌, subst, arith}
 use Rattle.std.proofs.lemmas.List.{drop-drop}
-use Rattle.base.specs.declared.files.FileKind.{FileKind}
 use Rattle.base.specs.declared.reasons.Refusal.{Refusal}
 use Rattle.package.specs.declared.items.Stage.{Stage}
 use Rattle.package.specs.declared.items.Stage.TheVariants.{Package, NameAlone, Version, Files, Done}
 use Rattle.package.specs.Words.{content_length, file_kind, path, is_end}
 use Rattle.package.specs.Checks.{refusal}
-use Rattle.package.specs.Items.{Part, name_part, version_part, file_part, end_part, Handed, due_at, handed, file_handed, item_at}
+use Rattle.package.specs.Items.{Part, name_part, version_part, file_part, end_part, Handed, due_at, file_handed, item_at}
 use Rattle.package.proofs.Tests.{some_none}
-use Rattle.package.proofs.ItemRuns.{Got, got, got_on, got_run, lost_run}
+use Rattle.package.proofs.ItemRuns.{got, lost_run}
 use Rattle.package.specs.declared.package.Package.{Package as Contained}
 use Rattle.package.specs.declared.items.Items.{Items}
 use Rattle.package.specs.Readings.{Reading}

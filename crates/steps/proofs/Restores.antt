@@ -1,7 +1,7 @@
 -- Putting back gives what was found.
 use Rattle.std.proofs.Common.{◌≡◌, ℕ, zero, suc, ◌+◌, Bool, true, false, cond, eqb, List, [], ◌∷◌, take, Some, None, sym, refl, ap, ◌∙◌, subst, arith}
 use mathlib.Core.Path.{fun_ext}
-use Rattle.std.specs.List.{AllByRecursion as All}
+use Rattle.std.specs.List.{AllByRecursion}
 use Rattle.std.proofs.lemmas.Bool.{eqb-true, eqb-false, cond-false}
 use Rattle.base.specs.declared.files.FileKind.{FileKind}
 use Rattle.base.specs.declared.files.FileKind.TheVariants.{Plain, Conffile}
@@ -53,7 +53,7 @@ either p q g h f n = fun_ext (λ r. go r (eqb r p) (eqb r q) refl refl)
     go r false false s t = refl
 
 abbrev pub Apart : ℕ → List Ware → Type 0
-Apart p ys = All (λ y. eqb y.path p ≡ false) ys
+Apart p ys = AllByRecursion (λ y. eqb y.path p ≡ false) ys
 
 apart_front : (p n : ℕ) (ys : List Ware) → Apart p ys → Apart p (take n ys)
 apart_front p zero ys a = tt

@@ -1,12 +1,12 @@
 -- Several changes of one path are one.
-use Rattle.std.proofs.Common.{◌≡◌, ℕ, Bool, true, false, cond, eqb, List, is_some, Some, None, sym, refl, ap, ◌∙◌}
+use Rattle.std.proofs.Common.{◌≡◌, ℕ, Bool, true, false, cond, eqb, List, Some, None, sym, refl, ap, ◌∙◌}
 use mathlib.Core.Path.{fun_ext}
 use Rattle.base.specs.declared.files.FileKind.{FileKind}
 use Rattle.store.specs.Files.{Files, file_at}
 use Rattle.store.specs.Sides.{Sides, key_of, sides_at, side_of, with_side, carried, change, admits_side}
 use Rattle.store.specs.declared.side.Side.{Side}
 use Rattle.store.specs.declared.side.Side.TheVariants.{Place, Aside, Pending, PendingAside}
-use Rattle.steps.specs.Steps.{home, refuge, in_way, set_aside, laid, room_for, lay_step, put_back, passed}
+use Rattle.steps.specs.Steps.{home, refuge, set_aside, room_for, lay_step, put_back, passed}
 use Rattle.steps.specs.declared.pass.Pass.{Pass}
 
 pub side_file : (fs : Files) (p : ℕ) (s : Side) → file_at fs (key_of p s) ≡ side_of s (sides_at fs p)

@@ -1,6 +1,6 @@
 -- The files of a package as a store keeps them, and what is done with all of them.
 use Rattle.std.specs.Prelude.{◌≡◌, ℕ, zero, suc, ◌+◌, ◌<◌, Bool, true, false, cond, List, [], ◌∷◌, length, take, drop, Some, None, Ok, Err, Option, Result, ◌==◌}
-use Rattle.std.specs.List.{AllByRecursion as All}
+use Rattle.std.specs.List.{AllByRecursion}
 use Rattle.base.specs.declared.files.FileKind.{FileKind}
 use Rattle.package.specs.declared.package.Package.{Package as Contained}
 use Rattle.package.specs.declared.items.Items.{Items}
@@ -61,11 +61,11 @@ unwind_all how (x ∷ xs) f = unwind_all how xs (change x.path (unwound how x.ki
 -- no path twice
 abbrev pub Distinct : List Ware → Type 0
 Distinct [] = Unit {0}
-Distinct (x ∷ xs) = All (λ y. (y.path == x.path) ≡ false) xs × Distinct xs
+Distinct (x ∷ xs) = AllByRecursion (λ y. (y.path == x.path) ≡ false) xs × Distinct xs
 
 -- nothing is set aside where these files go
 abbrev pub Clean : List Ware → (ℕ → Sides) → Type 0
-Clean xs f = All (λ x. side_of (refuge x.kind) (f x.path) ≡ None) xs
+Clean xs f = AllByRecursion (λ x. side_of (refuge x.kind) (f x.path) ≡ None) xs
 
 -- a reader that stands before a file or the end, and has no fault before it
 abbrev pub Filing : Stage → Type 0

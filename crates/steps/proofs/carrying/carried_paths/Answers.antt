@@ -9,4 +9,4 @@ returns c = λ reading q.
     let words = c.args.words.now in
     let items = c.files.result in
     let o = c.files.ensures in
-    add_first q _ _ _ _ (files_there items words new o.0 o.1 reading) c.none-paths.ensures (c.add-from.ensures (files_ready items new words o.0 o.1 o.2 reading) q)
+    add_first q _ _ _ _ (files_there items words new o.0 o.1 reading) c.none-paths.ensures (c.add_from.ensures (files_ready items new words o.0 o.1 o.2 reading) q)

@@ -7,8 +7,8 @@ use Rattle.steps.proofs.owning.pass_owned.Goals as goal
 pub loop-owned-preserved : goal.loop-owned-preserved
 loop-owned-preserved g c =
     let step = own_step c.args.pass c.args.name (member c.args.except.now) in (
-      fold_turn step c.args.owners.now c.loop-owned.owned-index _ _ _ c.loop-owned-test.true c.pass-one.ensures.sides ∙ c.loop-owned.invariant.0,
-      c.pass-one.ensures.units ∙ c.loop-owned.invariant.1,
+      fold_turn step c.args.owners.now c.loop-owned.owned-index _ _ _ c.loop-owned-test.true c.pass_one.ensures.sides ∙ c.loop-owned.invariant.0,
+      c.pass_one.ensures.units ∙ c.loop-owned.invariant.1,
     )
 
 pub returns : goal.returns

@@ -1,4 +1,4 @@
-use Rattle.std.proofs.Common.{◌≡◌, ℕ, List, ◌∷◌, length, drop, sym, ap, ◌∙◌, subst}
+use Rattle.std.proofs.Common.{ℕ, List, ◌∷◌, length, drop, sym, ap, ◌∙◌, subst}
 use Rattle.package.specs.declared.items.Item.{Item}
 use Rattle.package.specs.Checks.{refusal}
 use Rattle.package.specs.Items.{due_at, part_of}
@@ -7,11 +7,11 @@ use Rattle.steps.specs.Wares.{wares}
 use Rattle.steps.proofs.Readings.{Told, told_item, no_fault}
 use Rattle.steps.proofs.reading.next_file.Goals as goal
 
-pub returns-in-default : goal.returns-in-default
-returns-in-default c =
+pub returns-in_default : goal.returns-in_default
+returns-in_default c =
     let s = c.args.files.now in
     record {
-      reads = λ ready. absurd (no_fault s.stage s.place (drop s.place s.words.now) c.in-default.field-0 ready.filing ready.sound c.in-default.ensures.item);
+      reads = λ ready. absurd (no_fault s.stage s.place (drop s.place s.words.now) c.in_default.field-0 ready.filing ready.sound c.in_default.ensures.item);
       onward = tt;
     }
 

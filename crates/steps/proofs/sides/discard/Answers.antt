@@ -5,6 +5,6 @@ use Rattle.steps.proofs.sides.discard.Goals as goal
 
 pub returns : goal.returns
 returns g c = record {
-  sides = c.clear-side.ensures.sides ∙ ap (λ (s : Side). change c.args.path (with_side s None) (sides_at (g.S.Store.files c.args.store.now))) c.refuge-of.ensures;
-  units = c.clear-side.ensures.units;
+  sides = c.clear_side.ensures.sides ∙ ap (λ (s : Side). change c.args.path (with_side s None) (sides_at (g.S.Store.files c.args.store.now))) c.refuge_of.ensures;
+  units = c.clear_side.ensures.units;
 }

@@ -9,7 +9,7 @@ returns-then-tally g c =
     let words = c.args.words.now in
     let items = c.files.result in
     let o = c.files.ensures in
-    let t = c.lay-from-tally in
+    let t = c.lay_from-tally in
     record {
       laid = λ reading. lay_told _ _ _ _ _ _ t.result _ (files_there items new words o.0 o.1 o.2) c.if-tally.true (t.ensures.laid (files_ready items new words o.0 o.1 o.2 reading));
       laid_goods = λ reading. lay_told _ _ _ _ _ _ t.result _ (goods-there items words new o.0 o.1 reading) c.if-tally.true (t.ensures.laid (files_ready items new words o.0 o.1 o.2 reading));
@@ -22,7 +22,7 @@ returns-else-tally g c =
     let words = c.args.words.now in
     let items = c.files.result in
     let o = c.files.ensures in
-    let t = c.lay-from-tally in
+    let t = c.lay_from-tally in
     record {
       laid = λ reading. lay_told _ _ _ _ _ _ t.result _ (files_there items new words o.0 o.1 o.2) c.if-tally.false (t.ensures.laid (files_ready items new words o.0 o.1 o.2 reading));
       laid_goods = λ reading. lay_told _ _ _ _ _ _ t.result _ (goods-there items words new o.0 o.1 reading) c.if-tally.false (t.ensures.laid (files_ready items new words o.0 o.1 o.2 reading));

@@ -3,9 +3,9 @@ use Rattle.steps.specs.Wares.{ware_of}
 use Rattle.steps.proofs.Layings.{unwind_none, unwind_more}
 use Rattle.steps.proofs.unwinding.+unwind_from.Goals as goal
 
-pub returns-in-default : goal.returns-in-default
-returns-in-default g t c = record {
-  sides = λ ready. unwind_none c.args.how c.args.left _ _ (c.in-default.ensures.reads ready);
+pub returns-in_default : goal.returns-in_default
+returns-in_default g t c = record {
+  sides = λ ready. unwind_none c.args.how c.args.left _ _ (c.in_default.ensures.reads ready);
   units = refl;
 }
 
@@ -15,6 +15,6 @@ returns g t c =
     record {
       sides = λ ready.
           let r = c.in-Some.ensures.reads ready in
-          unwind_more c.args.how c.args.left (ware_of c.in-Some.file) _ _ _ _ _ z r.0 c.unwind-one.ensures.sides (c.unwind-from.ensures.sides r.1);
-      units = c.unwind-from.ensures.units ∙ c.unwind-one.ensures.units;
+          unwind_more c.args.how c.args.left (ware_of c.in-Some.file) _ _ _ _ _ z r.0 c.unwind_one.ensures.sides (c.unwind_from.ensures.sides r.1);
+      units = c.unwind_from.ensures.units ∙ c.unwind_one.ensures.units;
     }

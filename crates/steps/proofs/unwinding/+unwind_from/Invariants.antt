@@ -1,4 +1,4 @@
 use Rattle.steps.proofs.unwinding.+unwind_from.Given as goal
 
-abbrev pub decreases-unwind-from : goal.decreases-unwind-from
-decreases-unwind-from g l = l.left
+abbrev pub decreases-unwind_from : goal.decreases-unwind_from
+decreases-unwind_from g l = l.left

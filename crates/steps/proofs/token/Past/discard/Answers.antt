@@ -1,4 +1,4 @@
-use Rattle.std.proofs.Common.{◌≡◌, List, take, refl, ap, ◌∙◌}
+use Rattle.std.proofs.Common.{List, take, refl, ap, ◌∙◌}
 use Rattle.store.specs.Sides.{sides_at}
 use Rattle.steps.specs.declared.pass.Unwind.TheVariants.{Discard}
 use Rattle.steps.specs.Wares.{Ware, unwind_all}
@@ -15,10 +15,10 @@ returns g c =
     record {
       count = refl;
       sides = λ reading.
-          c.unwind-from.ensures.sides (files_ready c.files.result new words o.0 o.1 o.2 reading)
+          c.unwind_from.ensures.sides (files_ready c.files.result new words o.0 o.1 o.2 reading)
           ∙ ap (λ (xs : List Ware). unwind_all Discard (take c.args.self.touched xs) f) (files_there c.files.result new words o.0 o.1 o.2);
       sides_goods = λ reading.
-          c.unwind-from.ensures.sides (files_ready c.files.result new words o.0 o.1 o.2 reading)
+          c.unwind_from.ensures.sides (files_ready c.files.result new words o.0 o.1 o.2 reading)
           ∙ ap (λ (xs : List Ware). unwind_all Discard (take c.args.self.touched xs) f) (goods-there c.files.result words new o.0 o.1 reading);
-      units = c.unwind-from.ensures.units;
+      units = c.unwind_from.ensures.units;
     }
