@@ -1,20 +1,18 @@
 -- Every package within the rules is accepted in its encoding, and read back as it was.
-use Rattle.std.proofs.Common.{◌≡◌, ℕ, zero, suc, ◌+◌, ◌-◌, ◌*◌, ◌/◌, ◌%◌, ◌^◌, ◌<◌, ◌≤◌, min, Bool, true, false, cond, ◌&&◌, ◌||◌, eqb, ltb, leb, List, [], ◌∷◌, ◌++◌, length, Some, None, Option, sym, refl, ap, ◌∙◌, subst, ap₂, append_assoc, append-nil, add-zero, arith, length-append}
-use Rattle.std.specs.List.{flat_map, AllByRecursion as All}
-use Rattle.std.proofs.lemmas.Bool.{and_from, and_parts, eq-eqb, ne_eqb, le-leb, leb-true}
+use Rattle.std.proofs.Common.{◌≡◌, ℕ, suc, ◌+◌, ◌*◌, ◌^◌, ◌<◌, ◌≤◌, Bool, true, false, cond, eqb, List, [], ◌∷◌, ◌++◌, length, None, sym, refl, ap, ◌∙◌, subst, ap₂, append_assoc, add-zero, arith, length-append}
+use Rattle.std.specs.List.{flat_map, AllByRecursion}
+use Rattle.std.proofs.lemmas.Bool.{and_parts, ne_eqb}
 use Rattle.std.proofs.lemmas.Bool.Decides.{nat_tests}
 use Rattle.base.specs.declared.files.FileKind.{FileKind}
-use Rattle.base.specs.declared.reasons.Reason.TheVariants.{WrongWord, OutsideLimits}
-use Rattle.base.specs.declared.reasons.Refusal.{Refusal}
 use Rattle.base.specs.declared.texts.TextKind.{TextKind}
 use Rattle.base.specs.declared.texts.TextKind.TheVariants.{Name, Version}
-use Rattle.base.specs.Texts.{all, allowed, fitting, may_begin, may_follow, spelled}
-use Rattle.package.specs.declared.rules.TextRule.TheVariants.{Spelled, Free}
-use Rattle.package.specs.Words.{is_end, is_head, is_file, content_length, path, file_kind, name_length, version_length}
-use Rattle.package.specs.Checks.{Due, package_head, name_head, text, item, nothing, fault, contents, next, refusal}
-use Rattle.package.specs.Packages.{Carried, Contents, Fits, Rising, Within, text_words, file_words, end_word, head_word, body, encoded, name_encoded, text_in, behind_text, files_in, name_due, version_due, name_in, version_in, package_in}
-use Rattle.package.proofs.Tests.{must_pass, refusal_on}
-use Rattle.encoding.proofs.Made.{file_word, file_length, file_path, file_back, file_is, file_no_end, file_passes, end_passes, end_is, end_back, head_is, head_name, head_version}
+use Rattle.base.specs.Texts.{all, fitting, may_begin, may_follow, spelled}
+use Rattle.package.specs.declared.rules.TextRule.TheVariants.{Free}
+use Rattle.package.specs.Words.{is_end, content_length, path, file_kind}
+use Rattle.package.specs.Checks.{Due, text, item, nothing, contents, next, refusal}
+use Rattle.package.specs.Packages.{Carried, Fits, Rising, text_words, file_words, end_word, text_in, files_in}
+use Rattle.package.proofs.Tests.{refusal_on}
+use Rattle.encoding.proofs.Made.{file_word, file_length, file_path, file_back, file_is, file_no_end, file_passes, end_passes, end_is, end_back}
 use Rattle.encoding.proofs.Ran.{Ran}
 use Rattle.encoding.proofs.Encodes.{run_text, some_words}
 
@@ -26,12 +24,12 @@ follow_low : (kind : TextKind) (b : ℕ) → may_follow kind b ≡ true → b < 
 follow_low Name b h = grind (arith, nat_tests)
 follow_low Version b h = grind (arith, nat_tests)
 
-all_low : (kind : TextKind) (bs : List ℕ) → all (may_follow kind) bs ≡ true → All (λ b. b < 256) bs
+all_low : (kind : TextKind) (bs : List ℕ) → all (may_follow kind) bs ≡ true → AllByRecursion (λ b. b < 256) bs
 all_low kind [] h = tt
 all_low kind (b ∷ bs) h =
     let p = and_parts (may_follow kind b) (all (may_follow kind) bs) h in (follow_low kind b p.0, all_low kind bs p.1)
 
-pub spelled_low : (kind : TextKind) (bs : List ℕ) → spelled kind bs ≡ true → All (λ b. b < 256) bs
+pub spelled_low : (kind : TextKind) (bs : List ℕ) → spelled kind bs ≡ true → AllByRecursion (λ b. b < 256) bs
 spelled_low kind [] h = tt
 spelled_low kind (b ∷ bs) h =
     let p = and_parts (may_begin kind b) (all (may_follow kind) bs) h in (begin_low kind b p.0, all_low kind bs p.1)
@@ -41,7 +39,7 @@ fitting_bounds Name n h = (grind (arith, nat_tests), grind (arith, nat_tests))
 fitting_bounds Version n h = (grind (arith, nat_tests), grind (arith, nat_tests))
 
 -- a content, of no words or some, before an item
-content_run : (bs : List ℕ) (count floor place : ℕ) (rest : List ℕ) → All (λ b. b < 256) bs
+content_run : (bs : List ℕ) (count floor place : ℕ) (rest : List ℕ) → AllByRecursion (λ b. b < 256) bs
     → Ran (contents (length (text_words bs)) (item count floor)) (item count floor) place (text_words bs ++ rest) rest bs (length (text_words bs))
 content_run [] count floor place rest u = record {
   run = ap (λ (p : ℕ). refusal (item count floor) p rest) (sym (add-zero place));
@@ -73,7 +71,7 @@ tail_step place f fs =
 same_carried : (f : Carried) (k : FileKind) (p : ℕ) (c : List ℕ) → k ≡ f.kind → p ≡ f.path → c ≡ f.content → record { kind = k; path = p; content = c } ≡ f
 same_carried f k p c ek ep ec = λ i. record { kind = ek i; path = ep i; content = ec i }
 
-pub run_files : (fs : List Carried) (count floor place : ℕ) → count + length fs ≤ 24 → Rising floor fs → All Fits fs → place + length (flat_map file_words fs) < 2 ^ 28
+pub run_files : (fs : List Carried) (count floor place : ℕ) → count + length fs ≤ 24 → Rising floor fs → AllByRecursion Fits fs → place + length (flat_map file_words fs) < 2 ^ 28
     → (refusal (item count floor) place (tail place fs) ≡ None) × (files_in (item count floor) (tail place fs) ≡ fs)
 run_files [] count floor place few rise fit low =
     let e : place + 0 ≡ place = omega arith in

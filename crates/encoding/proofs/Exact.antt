@@ -1,6 +1,5 @@
 -- Words without a fault are the encoding of the package, or of the name, that stands in them.
-use Rattle.std.proofs.Common.{◌≡◌, ℕ, ◌+◌, ◌-◌, ◌<◌, ◌≤◌, Bool, true, false, cond, ◌&&◌, eqb, leb, List, [], ◌∷◌, ◌++◌, length, Some, None, Decides, sym, refl, ap, ◌∙◌, subst, ap₂, append-nil, le_refl, arith}
-use Rattle.std.specs.List.{AllByRecursion as All}
+use Rattle.std.proofs.Common.{◌≡◌, ℕ, ◌+◌, ◌-◌, Bool, true, false, cond, ◌&&◌, eqb, leb, List, [], ◌∷◌, ◌++◌, length, Some, None, Decides, sym, refl, ap, ◌∙◌, subst, ap₂, append-nil, le_refl, arith}
 use Rattle.std.proofs.lemmas.Bool.{and_from, and_parts, eqb-true, both_ways}
 use Rattle.base.specs.declared.reasons.Reason.TheVariants.{EndsEarly, WrongWord, OutsideLimits}
 use Rattle.base.specs.declared.reasons.Refusal.{Refusal}
@@ -11,13 +10,13 @@ use Rattle.base.specs.Texts.{allowed, fitting, spelled}
 use Rattle.package.specs.declared.rules.TextRule.{TextRule}
 use Rattle.package.specs.declared.rules.TextRule.TheVariants.{Spelled}
 use Rattle.package.specs.Words.{bytes, is_head, name_length, version_length}
-use Rattle.package.specs.Checks.{Due, package_head, name_head, text, item, nothing, refusal}
+use Rattle.package.specs.Checks.{Due, package_head, name_head, text, item, nothing}
 use Rattle.package.specs.Packages.{Carried, Contents, Within, text_words, head_word, encoded, name_encoded, text_in, behind_text, files_in, name_in, version_in, package_in}
 use Rattle.package.specs.Readings.{package_refusal, name_refusal}
 use Rattle.package.proofs.Tests.{some_none, must_none, refusal_none}
 use Rattle.encoding.specs.Laws.{PackageWords, NameWords}
 use Rattle.encoding.proofs.Made.{head_made}
-use Rattle.encoding.proofs.Accepted.{fitting_bounds, tail}
+use Rattle.encoding.proofs.Accepted.{fitting_bounds}
 use Rattle.encoding.proofs.Decodes.{Decoded, Filed, text_decodes, files_decode, nothing_left}
 use Rattle.encoding.proofs.Whole.{laid, encoded_laid, encoded_accepted, name_accepted}
 

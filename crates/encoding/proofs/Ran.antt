@@ -1,9 +1,9 @@
 -- A text that the checks have run over: what is due behind it, the words left, and its bytes.
-use Rattle.std.proofs.Common.{◌≡◌, ℕ, suc, ◌+◌, ◌-◌, Bool, true, false, cond, leb, List, [], ◌∷◌, ◌++◌, Some, None, Option, sym, refl, ap, ◌∙◌, append-nil, arith}
+use Rattle.std.proofs.Common.{◌≡◌, ℕ, suc, ◌+◌, ◌-◌, Bool, true, false, cond, leb, List, [], ◌∷◌, ◌++◌, None, ap, ◌∙◌, append-nil, arith}
 use Rattle.package.specs.declared.rules.TextRule.{TextRule}
 use Rattle.package.specs.Words.{bytes}
-use Rattle.package.specs.Checks.{Due, text, text_fault, next, refusal}
-use Rattle.package.specs.Packages.{Carried, text_in, behind_text, files_in}
+use Rattle.package.specs.Checks.{Due, text, text_fault, refusal}
+use Rattle.package.specs.Packages.{text_in, behind_text, files_in}
 use Rattle.package.proofs.Tests.{refusal_on}
 
 pub record Ran (due after : Due) (place : ℕ) (ws rest bs : List ℕ) (n : ℕ) : Type 0 where

@@ -1,16 +1,15 @@
 -- A whole package, and a name alone, from what they carry to their words and back.
-use Rattle.std.proofs.Common.{◌≡◌, ℕ, suc, ◌+◌, ◌*◌, ◌^◌, ◌<◌, ◌≤◌, Bool, true, false, cond, ◌&&◌, eqb, List, [], ◌∷◌, ◌++◌, length, Some, None, Option, sym, refl, ap, ◌∙◌, ap₂, append_assoc, append-nil, arith, length-append}
-use Rattle.std.specs.List.{flat_map, AllByRecursion as All}
+use Rattle.std.proofs.Common.{◌≡◌, ℕ, ◌+◌, ◌*◌, ◌≤◌, Bool, true, false, ◌&&◌, eqb, List, [], ◌∷◌, ◌++◌, length, None, sym, refl, ap, ◌∙◌, ap₂, append_assoc, append-nil, arith, length-append}
+use Rattle.std.specs.List.{flat_map, AllByRecursion}
 use Rattle.std.proofs.lemmas.Bool.{and_from, and_parts, eq-eqb}
 use Rattle.base.specs.declared.reasons.Reason.TheVariants.{WrongWord, OutsideLimits}
-use Rattle.base.specs.declared.reasons.Refusal.{Refusal}
 use Rattle.base.specs.declared.texts.TextKind.{TextKind}
 use Rattle.base.specs.declared.texts.TextKind.TheVariants.{Name, Version}
 use Rattle.base.specs.Texts.{allowed, fitting, spelled}
 use Rattle.package.specs.declared.rules.TextRule.TheVariants.{Spelled}
 use Rattle.package.specs.Words.{is_head, name_length, version_length}
 use Rattle.package.specs.Checks.{Due, package_head, name_head, text, item, nothing, head_fault, fault, next, refusal}
-use Rattle.package.specs.Packages.{Carried, Contents, Fits, Rising, Within, text_words, file_words, end_word, head_word, encoded, name_encoded, text_in, behind_text, files_in, name_due, version_due, name_in, version_in, package_in}
+use Rattle.package.specs.Packages.{Carried, Contents, Fits, Rising, Within, text_words, file_words, end_word, head_word, encoded, name_encoded, text_in, behind_text, files_in, name_in, version_in, package_in}
 use Rattle.package.specs.Readings.{package_refusal, name_refusal}
 use Rattle.package.proofs.Tests.{must_pass, refusal_on}
 use Rattle.encoding.proofs.Made.{head_is, head_name, head_version}
@@ -24,7 +23,7 @@ words_short (a ∷ []) = omega arith
 words_short (a ∷ b ∷ []) = omega arith
 words_short (a ∷ b ∷ c ∷ bs) = let h = words_short bs in omega arith
 
-files_short : (fs : List Carried) → All Fits fs → length (flat_map file_words fs) ≤ 33 * length fs
+files_short : (fs : List Carried) → AllByRecursion Fits fs → length (flat_map file_words fs) ≤ 33 * length fs
 files_short [] h = omega arith
 files_short (f ∷ fs) h =
     let i = files_short fs h.1 in
@@ -82,7 +81,7 @@ head_fine n v hn hv =
     (ap (fitting Name) (head_name (length n) (length v) l m) ∙ (and_parts (fitting Name (length n)) (spelled Name n) hn).0)
     (ap (fitting Version) (head_version (length n) (length v) l m) ∙ (and_parts (fitting Version (length v)) (spelled Version v) hv).0))
 
-files_run : (n v : List ℕ) (fs : List Carried) → allowed Name n ≡ true → allowed Version v ≡ true → length fs ≤ 24 → Rising 0 fs → All Fits fs
+files_run : (n v : List ℕ) (fs : List Carried) → allowed Name n ≡ true → allowed Version v ≡ true → length fs ≤ 24 → Rising 0 fs → AllByRecursion Fits fs
     → (refusal (item 0 0) (0 + 1 + length (text_words n) + length (text_words v)) (tail (0 + 1 + length (text_words n) + length (text_words v)) fs) ≡ None)
     × (files_in (item 0 0) (tail (0 + 1 + length (text_words n) + length (text_words v)) fs) ≡ fs)
 files_run n v fs hn hv few rise fit =
@@ -93,7 +92,7 @@ files_run n v fs hn hv few rise fit =
     let e = files_short fs fit in
     run_files fs 0 0 (0 + 1 + length (text_words n) + length (text_words v)) (omega arith) rise fit (omega arith)
 
-laid_accepted : (n v : List ℕ) (fs : List Carried) → allowed Name n ≡ true → allowed Version v ≡ true → length fs ≤ 24 → Rising 0 fs → All Fits fs
+laid_accepted : (n v : List ℕ) (fs : List Carried) → allowed Name n ≡ true → allowed Version v ≡ true → length fs ≤ 24 → Rising 0 fs → AllByRecursion Fits fs
     → package_refusal (head_word (length n) (length v) ∷ laid n v fs) ≡ None
 laid_accepted n v fs hn hv few rise fit =
     refusal_on package_head 0 (head_word (length n) (length v)) (laid n v fs) (head_fine n v hn hv)
@@ -102,7 +101,7 @@ laid_accepted n v fs hn hv few rise fit =
     ∙ (named_run Version v (item 0 0) (0 + 1 + length (text_words n)) (tail (0 + 1 + length (text_words n) + length (text_words v)) fs) hv).run
     ∙ (files_run n v fs hn hv few rise fit).0
 
-laid_files : (n v : List ℕ) (fs : List Carried) → allowed Name n ≡ true → allowed Version v ≡ true → length fs ≤ 24 → Rising 0 fs → All Fits fs
+laid_files : (n v : List ℕ) (fs : List Carried) → allowed Name n ≡ true → allowed Version v ≡ true → length fs ≤ 24 → Rising 0 fs → AllByRecursion Fits fs
     → files_in package_head (head_word (length n) (length v) ∷ laid n v fs) ≡ fs
 laid_files n v fs hn hv few rise fit =
     ap (λ (d : Due). files_in d (laid n v fs)) (due_behind n v hn hv)

@@ -1,18 +1,17 @@
 -- Items that were handed out, and the checks of the whole input.
-use Rattle.std.proofs.Common.{◌≡◌, ℕ, zero, suc, ◌+◌, ◌-◌, ◌*◌, ◌<◌, ◌≤◌, Bool, true, false, cond, ◌&&◌, eqb, leb, List, [], ◌∷◌, ◌++◌, length, take, drop, Some, None, Ok, Err, Option, Result, sym, refl, ap, ◌∙◌, ap₂, arith, length-drop}
+use Rattle.std.proofs.Common.{◌≡◌, ℕ, suc, ◌+◌, ◌-◌, ◌<◌, Bool, true, false, cond, List, [], ◌∷◌, length, drop, Some, None, Ok, Err, Option, sym, refl, ap, ◌∙◌, arith, length-drop}
 use Rattle.std.proofs.lemmas.List.{drop-drop}
-use Rattle.base.specs.declared.reasons.Reason.{Reason}
 use Rattle.base.specs.declared.reasons.Reason.TheVariants.{EndsEarly, WrongWord}
 use Rattle.base.specs.declared.reasons.Refusal.{Refusal}
 use Rattle.base.specs.Refusals.{word_refusal}
 use Rattle.base.specs.declared.texts.TextKind.TheVariants.{Name as name, Version as version}
-use Rattle.package.specs.declared.rules.TextRule.TheVariants.{Spelled, Free}
+use Rattle.package.specs.declared.rules.TextRule.TheVariants.{Spelled}
 use Rattle.package.specs.declared.items.Stage.{Stage}
 use Rattle.package.specs.declared.items.Stage.TheVariants.{Package, NameAlone, Version, Files, Done}
 use Rattle.package.specs.Words.{name_length, version_length, content_length, is_end, path}
-use Rattle.package.specs.Checks.{Due, package_head, name_head, text, item, nothing, fault, contents, or_else, next, refusal}
+use Rattle.package.specs.Checks.{package_head, name_head, text, item, nothing, fault, contents, refusal}
 use Rattle.package.specs.Items.{Handed, end_part, due_at, file_handed, handed, item_at, item_refusal, judged, text_refusal, content_refusal, words_for}
-use Rattle.package.proofs.Tests.{some_none, or_else_none}
+use Rattle.package.proofs.Tests.{some_none}
 use Rattle.package.proofs.TextSound.{or_run, step_run, text_run, content_run}
 
 -- an item that was handed out had a first word, no fault, and is the one that the definition names

@@ -1,5 +1,5 @@
 -- A package taken apart by its first two items.
-use Rattle.std.proofs.Common.{◌≡◌, ℕ, zero, suc, ◌+◌, ◌-◌, ◌<◌, ◌≤◌, Bool, true, false, cond, ◌&&◌, eqb, List, [], ◌∷◌, ◌++◌, length, take, drop, is_some, Some, None, Ok, Err, Option, sym, refl, ap, ◌∙◌, subst, ap₂, arith}
+use Rattle.std.proofs.Common.{◌≡◌, ℕ, suc, ◌+◌, ◌≤◌, Bool, true, false, cond, ◌&&◌, eqb, List, ◌∷◌, length, take, drop, is_some, Some, None, Ok, Err, Option, sym, refl, ap, ◌∙◌, subst, arith}
 use Rattle.std.specs.List.{flat_map}
 use Rattle.std.proofs.lemmas.List.{drop-drop, take_all}
 use Rattle.std.proofs.lemmas.Bool.{and_parts, and_from}
@@ -16,14 +16,14 @@ use Rattle.std.proofs.lemmas.Bool.Decides.{nat_tests}
 use Rattle.package.specs.declared.rules.TextRule.TheVariants.{Spelled}
 use Rattle.base.specs.declared.reasons.Refusal.{Refusal}
 use Rattle.package.specs.declared.items.Stage.{Stage}
-use Rattle.package.specs.declared.items.Stage.TheVariants.{Package, NameAlone, Version, Files}
+use Rattle.package.specs.declared.items.Stage.TheVariants.{Package, NameAlone, Version}
 use Rattle.package.specs.Words.{bytes, is_head, name_length, version_length}
 use Rattle.package.specs.Checks.{package_head, name_head, text, item, nothing, fault, refusal}
-use Rattle.package.specs.Items.{Handed, due_at, handed, item_at, item_refusal, part_words, text_refusal, words_for}
-use Rattle.package.specs.Packages.{text_in, behind_text, files_in, name_due, version_due, name_in, version_in}
+use Rattle.package.specs.Items.{Handed, due_at, item_at, item_refusal, part_words, text_refusal, words_for}
+use Rattle.package.specs.Packages.{text_in, files_in, version_due, name_in, version_in}
 use Rattle.package.specs.Readings.{Alone, Parted, name_refusal, package_refusal}
 use Rattle.package.proofs.Tests.{some_none, must_none, or_else_none}
-use Rattle.package.proofs.TextSound.{Sound, text_sound, text_spelled}
+use Rattle.package.proofs.TextSound.{text_sound, text_spelled}
 use Rattle.package.proofs.ItemRuns.{Got, got, got_run, lost_run}
 
 -- a text of an allowed length without a fault is allowed

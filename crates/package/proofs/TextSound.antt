@@ -1,20 +1,20 @@
 -- A text without a fault: the checks go on behind it, and its bytes are spelled right.
-use Rattle.std.proofs.Common.{◌≡◌, ℕ, zero, suc, ◌+◌, ◌-◌, ◌*◌, ◌/◌, ◌<◌, ◌≤◌, min, max, Bool, true, false, cond, ◌&&◌, eqb, leb, List, [], ◌∷◌, ◌++◌, length, take, drop, Some, None, Option, sym, refl, ap, ◌∙◌, ap₂, append-nil, arith, length-append}
+use Rattle.std.proofs.Common.{◌≡◌, ℕ, zero, suc, ◌+◌, ◌-◌, ◌*◌, ◌≤◌, min, Bool, true, false, cond, ◌&&◌, eqb, leb, List, [], ◌∷◌, ◌++◌, length, take, drop, Some, None, Option, sym, refl, ap, ◌∙◌, append-nil, arith, length-append}
 use Rattle.std.specs.List.{flat_map}
 use Rattle.std.proofs.lemmas.List.{length-take}
-use Rattle.std.proofs.lemmas.Bool.{leb-true, leb-false, eqb-true, eqb-false, and_from, and_parts, cases_Bool, both_ways}
+use Rattle.std.proofs.lemmas.Bool.{leb-true, leb-false, eqb-true, eqb-false, and_from, and_parts, both_ways}
 use Rattle.base.specs.declared.reasons.Reason.{Reason}
 use Rattle.base.specs.declared.reasons.Reason.TheVariants.{WrongWord, OutsideLimits, EndsEarly}
 use Rattle.base.specs.declared.reasons.Refusal.{Refusal}
 use Rattle.base.specs.declared.texts.TextKind.{TextKind}
 use Rattle.base.specs.Refusals.{word_refusal}
-use Rattle.base.specs.Texts.{all, may_begin, may_follow, spelled}
+use Rattle.base.specs.Texts.{all, may_begin, may_follow}
 use Rattle.package.specs.declared.rules.TextRule.{TextRule}
 use Rattle.package.specs.declared.rules.TextRule.TheVariants.{Spelled, Free}
 use Rattle.package.specs.Words.{three, bytes, byte_count, is_text}
-use Rattle.package.specs.Checks.{Due, text, item, contents, must, or_else, text_fault, right_count, right_bytes, refusal}
+use Rattle.package.specs.Checks.{Due, text, contents, or_else, text_fault, right_count, right_bytes, refusal}
 use Rattle.package.specs.Items.{text_refusal, content_refusal, words_for}
-use Rattle.package.specs.Packages.{Carried, text_in, behind_text, files_in}
+use Rattle.package.specs.Packages.{text_in, behind_text, files_in}
 use Rattle.package.proofs.Tests.{some_none, must_none, or_else_none}
 
 -- a first answer, else a second

@@ -1,7 +1,6 @@
 -- What each word of a package is checked for. At each place one kind of word is due; `fault` says what is wrong with a
 -- word there, `next` what is due behind it, and `refusal` finds the first fault of a list of words.
 use Rattle.std.specs.Prelude.{ℕ, ◌+◌, ◌-◌, ◌*◌, min, Bool, true, false, cond, ◌&&◌, ◌||◌, List, [], ◌∷◌, Some, None, Option, ◌==◌, nat_le, nat_lt}
-use Rattle.base.specs.declared.texts.TextKind.{TextKind}
 use Rattle.base.specs.declared.texts.TextKind.TheVariants.{Name, Version}
 use Rattle.base.specs.declared.reasons.Reason.{Reason}
 use Rattle.base.specs.declared.reasons.Reason.TheVariants.{EndsEarly, WrongWord, OutsideLimits, PathNotRising, WrongEndCount}

@@ -1,5 +1,5 @@
 -- What reading a package, or a name alone, answers.
-use Rattle.std.specs.Prelude.{◌≡◌, ℕ, true, List, drop, Some, None, Option}
+use Rattle.std.specs.Prelude.{◌≡◌, ℕ, true, List, drop, None, Option}
 use Rattle.std.specs.List.{flat_map}
 use Rattle.base.specs.declared.name.Name.{Name as NameType}
 use Rattle.base.specs.declared.texts.TextKind.TheVariants.{Name, Version}

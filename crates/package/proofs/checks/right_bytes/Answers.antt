@@ -1,4 +1,4 @@
-use Rattle.std.proofs.Common.{◌≡◌, ℕ, List, sym, ap, ◌∙◌, rules}
+use Rattle.std.proofs.Common.{sym, ap, ◌∙◌, rules}
 use Rattle.base.specs.Texts.{spells}
 use Rattle.package.specs.declared.rules.TextRule.{TextRule}
 use Rattle.package.specs.Words.{bytes}
@@ -8,5 +8,5 @@ use Rattle.package.proofs.checks.right_bytes.Goals as goal
 
 pub returns-in-Spelled : goal.returns-in-Spelled
 returns-in-Spelled c =
-    let e = carried c.args.word.0 _ c.three-bytes-three.result c.three-bytes-three.ensures (search rules) in
+    let e = carried c.args.word.0 _ c.three_bytes-three.result c.three_bytes-three.ensures (search rules) in
     c.spells.ensures ∙ ap (spells c.in-Spelled.kind c.args.begun) e ∙ ap (λ (r : TextRule). right_bytes r c.args.begun (bytes c.args.word.0)) (sym c.in-Spelled.is)

@@ -1,4 +1,4 @@
-use Rattle.std.proofs.Common.{◌<◌, ◌≤◌, [], length, get_or, take, sym, refl, ap, ◌∙◌, rules}
+use Rattle.std.proofs.Common.{◌<◌, ◌≤◌, [], length, get_or, take, sym, ap, ◌∙◌, rules}
 use Rattle.std.specs.List.{flat_map}
 use Rattle.std.proofs.lemmas.List.{take_all}
 use Rattle.package.specs.Words.{bytes}
@@ -9,9 +9,9 @@ use Rattle.package.proofs.gather.gather.Goals as goal
 pub loop-w-preserved : goal.loop-w-preserved
 loop-w-preserved c =
     let h : c.loop-w.w-index < length c.args.text.now = search rules in (
-      cap_more 16 [] (spelling c.loop-w.spelling) (spelling c.push-word.new.self) (flat_map bytes (take c.loop-w.w-index c.args.text.now)) (bytes (get_or c.args.text.now c.loop-w.w-index 0)) c.loop-w.invariant.0 c.push-word.ensures.text
+      cap_more 16 [] (spelling c.loop-w.spelling) (spelling c.push_word.new.self) (flat_map bytes (take c.loop-w.w-index c.args.text.now)) (bytes (get_or c.args.text.now c.loop-w.w-index 0)) c.loop-w.invariant.0 c.push_word.ensures.text
           ∙ ap (take 16) (sym (joined_take bytes c.args.text.now c.loop-w.w-index 0 h)),
-      c.push-word.ensures.fits,
+      c.push_word.ensures.fits,
     )
 
 pub returns : goal.returns

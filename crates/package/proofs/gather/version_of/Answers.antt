@@ -1,4 +1,4 @@
-use Rattle.std.proofs.Common.{◌≡◌, ℕ, take, ap, ◌∙◌}
+use Rattle.std.proofs.Common.{ℕ, take, ap, ◌∙◌}
 use native.Mathlib.Nat.{sub-zero}
 use Rattle.base.specs.declared.texts.TextKind.TheVariants.{Version as version}
 use Rattle.base.specs.Named.{row_of}

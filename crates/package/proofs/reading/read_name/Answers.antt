@@ -6,12 +6,12 @@ use Rattle.package.proofs.Parting.{name_found, name_spelt}
 use Rattle.package.proofs.reading.read_name.Goals as goal
 
 pub unwrap-requires : goal.unwrap-requires
-unwrap-requires c = name_found c.name-of.result (flat_map bytes c.in-ok-text.text.now) c.in-ok-text.ensures.spelled c.name-of.ensures
+unwrap-requires c = name_found c.name_of.result (flat_map bytes c.in_ok-text.text.now) c.in_ok-text.ensures.spelled c.name_of.ensures
 
 pub returns : goal.returns
 returns c =
-    let p = c.in-ok-text.ensures in
+    let p = c.in_ok-text.ensures in
     record {
       accepted = p.accepted;
-      named = name_spelt c.unwrap.result (flat_map bytes c.in-ok-text.text.now) p.spelled (ap name_rows (sym c.unwrap.ensures) ∙ c.name-of.ensures) ∙ p.named;
+      named = name_spelt c.unwrap.result (flat_map bytes c.in_ok-text.text.now) p.spelled (ap name_rows (sym c.unwrap.ensures) ∙ c.name_of.ensures) ∙ p.named;
     }

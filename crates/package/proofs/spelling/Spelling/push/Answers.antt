@@ -1,4 +1,4 @@
-use Rattle.std.proofs.Common.{arith, rules}
+use Rattle.std.proofs.Common.{rules}
 use Rattle.package.proofs.Gathers.{push_room, push_full}
 use Rattle.package.proofs.spelling.Spelling.push.Goals as goal
 
