@@ -10,5 +10,5 @@ returns c =
     let hb : get_or bs 1 0 < 256 = search rules in
     let hc : get_or bs 2 0 < 256 = search rules in
     let hd : get_or bs 3 0 < 256 = search rules in
-    let e : c.from-be-bytes.result ≡ get_or bs 0 0 * 16777216 + get_or bs 1 0 * 65536 + get_or bs 2 0 * 256 + get_or bs 3 0 = search rules in
-    front_word bs c.from-be-bytes.result h ha hb hc hd e
+    let e : c.from_be_bytes.result ≡ get_or bs 0 0 * 16777216 + get_or bs 1 0 * 65536 + get_or bs 2 0 * 256 + get_or bs 3 0 = search rules in
+    front_word bs c.from_be_bytes.result h ha hb hc hd e
