@@ -1,6 +1,6 @@
 -- Owners that are let go, one row at a time.
 use Rattle.std.proofs.Common.{◌≡◌, ℕ, zero, suc, ◌+◌, ◌<◌, ◌≤◌, Bool, true, false, cond, ltb, List, [], ◌∷◌, length, get_or, take, Some, None, Option, sym, refl, ap, ◌∙◌, subst, arith, take_all}
-use Rattle.std.specs.List.{remove, AllByRecursion as All}
+use Rattle.std.specs.List.{remove, AllByRecursion}
 use Rattle.std.proofs.lemmas.List.{get_or_default}
 use Rattle.std.proofs.ByRecursion.{All-more}
 use Rattle.std.proofs.lemmas.Bool.{cond-true, cond-false}
@@ -42,7 +42,7 @@ module _ (name : ShortText) (kind : FileKind) (except : ℕ → Bool) where
       go false m = refl
 
   -- where every row stays, each path keeps its owner
-  pub left_all : (xs : List Owned) → All Stays xs → (q : ℕ) → unowned name kind (except q) (owner_of q xs) ≡ owner_of q xs
+  pub left_all : (xs : List Owned) → AllByRecursion Stays xs → (q : ℕ) → unowned name kind (except q) (owner_of q xs) ≡ owner_of q xs
   left_all [] a q = refl
   left_all (o ∷ xs) a q = go (left_all xs a.1 q) (meets ltb o.path q) refl
     where
@@ -57,7 +57,7 @@ module _ (name : ShortText) (kind : FileKind) (except : ℕ → Bool) where
     pub room : room t ≡ room start
     pub count : length (live t) ≤ length (live start)
     pub within : i ≤ length (live t)
-    pub stay : All Stays (take i (live t))
+    pub stay : AllByRecursion Stays (take i (live t))
     pub left : (q : ℕ) → unowned name kind (except q) (owner_of q (live t)) ≡ unowned name kind (except q) (owner_of q (live start))
 
   pub begins : (t : Table Owned ℕ) → Sorted ltb (λ o. o.path) t → Between t t 0
@@ -88,10 +88,10 @@ module _ (name : ShortText) (kind : FileKind) (except : ℕ → Bool) where
         room = rm ∙ b.room;
         count = omega arith;
         within = omega arith;
-        stay = subst (All Stays) (sym (ap (take i) h.rows ∙ take_removed (live t) i)) b.stay;
+        stay = subst (AllByRecursion Stays) (sym (ap (take i) h.rows ∙ take_removed (live t) i)) b.stay;
         left = λ q. left_removed old (live t) (live t') (subst (λ (x : Owned). leaves name kind (except x.path) x ≡ true) same (sym gone)) e₂ h.law q ∙ b.left q;
       }
 
   pub ends : (start t : Table Owned ℕ) (i : ℕ) → Between start t i → length (live t) ≤ i
       → (q : ℕ) → owner_of q (live t) ≡ unowned name kind (except q) (owner_of q (live start))
-  ends start t i b le q = sym (left_all (live t) (subst (All Stays) (take_all i (live t) le) b.stay) q) ∙ b.left q
+  ends start t i b le q = sym (left_all (live t) (subst (AllByRecursion Stays) (take_all i (live t) le) b.stay) q) ∙ b.left q

@@ -1,7 +1,7 @@
 -- Past an install's point: what becomes of each path.
 use Rattle.std.proofs.Common.{◌≡◌, ℕ, ◌+◌, ◌≤◌, Bool, true, false, cond, not, eqb, List, [], ◌∷◌, length, take, is_some, Some, None, Option, sym, refl, ap, ◌∙◌, subst, arith}
 use mathlib.Core.Path.{fun_ext}
-use Rattle.std.specs.List.{AllByRecursion as All}
+use Rattle.std.specs.List.{AllByRecursion}
 use Rattle.std.proofs.lemmas.Bool.{eq-eqb, cond-true}
 use Rattle.base.specs.declared.texts.ShortText.{ShortText}
 use Rattle.base.specs.declared.files.FileKind.TheVariants.{Plain}
@@ -50,7 +50,7 @@ module _ (n : ShortText) (xs : List Ware) (except : ℕ → Bool) (os : List Own
       ∙ owner_at n (carried_at q xs) (owner_of q os))
 
 -- a file's own path is carried
-carried_too : (x : Ware) (xs ys : List Ware) → All (λ y. is_some (carried_at y.path ys) ≡ true) xs → All (λ y. is_some (carried_at y.path (x ∷ ys)) ≡ true) xs
+carried_too : (x : Ware) (xs ys : List Ware) → AllByRecursion (λ y. is_some (carried_at y.path ys) ≡ true) xs → AllByRecursion (λ y. is_some (carried_at y.path (x ∷ ys)) ≡ true) xs
 carried_too x [] ys a = tt
 carried_too x (y ∷ xs) ys a = (go (eqb y.path x.path), carried_too x xs ys a.1)
   where
@@ -58,7 +58,7 @@ carried_too x (y ∷ xs) ys a = (go (eqb y.path x.path), carried_too x xs ys a.1
     go true = refl
     go false = a.0
 
-carried_self : (xs : List Ware) → All (λ x. is_some (carried_at x.path xs) ≡ true) xs
+carried_self : (xs : List Ware) → AllByRecursion (λ x. is_some (carried_at x.path xs) ≡ true) xs
 carried_self [] = tt
 carried_self (x ∷ xs) = (ap is_some (cond-true _ _ _ (eq-eqb x.path x.path refl)), carried_too x xs xs (carried_self xs))
 
@@ -66,12 +66,12 @@ kept_owner : (n : ShortText) (o : Option Owned) → unowned n Plain true o ≡ o
 kept_owner n None = refl
 kept_owner n (Some o) = refl
 
-fresh_kept : (w w₁ : ℕ → Option Owned) (xs : List Ware) → All (λ x. w₁ x.path ≡ w x.path) xs → fresh_count w₁ xs ≡ fresh_count w xs
+fresh_kept : (w w₁ : ℕ → Option Owned) (xs : List Ware) → AllByRecursion (λ x. w₁ x.path ≡ w x.path) xs → fresh_count w₁ xs ≡ fresh_count w xs
 fresh_kept w w₁ [] a = refl
 fresh_kept w w₁ (x ∷ xs) a = λ i. one_if (not (is_some (a.0 i))) + fresh_kept w w₁ xs a.1 i
 
 still_owned : (n : ShortText) (w w₁ : ℕ → Option Owned) (xs ys : List Ware) → ((q : ℕ) → w₁ q ≡ unowned n Plain (is_some (carried_at q ys)) (w q))
-    → All (λ x. is_some (carried_at x.path ys) ≡ true) xs → All (λ x. w₁ x.path ≡ w x.path) xs
+    → AllByRecursion (λ x. is_some (carried_at x.path ys) ≡ true) xs → AllByRecursion (λ x. w₁ x.path ≡ w x.path) xs
 still_owned n w w₁ [] ys e a = tt
 still_owned n w w₁ (x ∷ xs) ys e a =
     (e x.path ∙ ap (λ (b : Bool). unowned n Plain b (w x.path)) a.0 ∙ kept_owner n (w x.path), still_owned n w w₁ xs ys e a.1)

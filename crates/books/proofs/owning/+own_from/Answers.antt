@@ -5,7 +5,7 @@ use Rattle.books.proofs.owning.+own_from.Goals as goal
 
 pub returns : goal.returns
 returns t c =
-    let e = c.own-from.ensures in
+    let e = c.own_from.ensures in
     let same = c.put.ensures.room in
     record {
       room = e.room ∙ same;

@@ -3,7 +3,7 @@ use Rattle.books.proofs.rows.take_out.Goals as goal
 
 pub returns : goal.returns
 returns g c =
-    let total = g.met.K.Key.total in
+    let total = g.met.E.K.Key.total in
     let keyed = g.E.Element.keyed in
     let t = c.args.table.now in
     let t' = c.remove.new.self in

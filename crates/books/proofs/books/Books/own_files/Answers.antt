@@ -13,7 +13,7 @@ returns c =
     record {
       owned = λ reading fits.
           owned_read c.args.name _ _ _ _ _ _ (files_there items words new e.0 e.1 reading) c.args.self.now.paths (goods_distinct words reading.accepted) fits
-          (c.own-from.ensures.owned (files_ready items new words e.0 e.1 e.2 reading));
+          (c.own_from.ensures.owned (files_ready items new words e.0 e.1 e.2 reading));
       records = refl;
       lines = refl;
       space = refl;

@@ -12,6 +12,6 @@ returns c reading =
     let new = c.args.new.now in
     let words = c.args.words.now in
     let e = c.files.ensures in
-    subst (λ xs. Surveyed c.args.name (owners_in (ledger c.args.self.now).owners) xs c.survey-from.result)
+    subst (λ xs. Surveyed c.args.name (owners_in (ledger c.args.self.now).owners) xs c.survey_from.result)
     (files_there items words new e.0 e.1 reading)
-    (c.survey-from.ensures.surveyed (files_ready items new words e.0 e.1 e.2 reading))
+    (c.survey_from.ensures.surveyed (files_ready items new words e.0 e.1 e.2 reading))
