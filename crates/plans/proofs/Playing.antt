@@ -1,9 +1,8 @@
 -- A plan that is followed, by the answers of its scripts.
-use Rattle.std.proofs.Common.{◌≡◌, ℕ, Bool, true, false, List, [], ◌∷◌, Some, None, sym, refl, ap, ◌∙◌}
+use Rattle.std.proofs.Common.{List, Some, sym, refl, ap, ◌∙◌}
 use Rattle.host.specs.declared.line.Line.{Line}
 use Rattle.host.specs.Hosts.{works}
-use Rattle.plans.specs.Plans.{Plan, done, ask, Follows}
-use Rattle.plans.specs.Moments.{After}
+use Rattle.plans.specs.Plans.{done, ask}
 use Rattle.plans.specs.Outcomes.{played, answers, LinesTell, ScriptOutcomes}
 
 pub lines_tell : LinesTell

@@ -1,15 +1,10 @@
 -- Install: which scripts are asked, and what each comes to when it works or fails.
-use Rattle.std.specs.Prelude.{ℕ, Bool, true, false, cond, List, take, Some, None, Option}
+use Rattle.std.specs.Prelude.{ℕ, false, cond, take, Some, None, Option}
 use Rattle.base.specs.declared.texts.ShortText.{ShortText}
-use Rattle.base.specs.declared.files.FileKind.{FileKind}
-use Rattle.base.specs.declared.files.FileKind.TheVariants.{Plain, Conffile}
-use Rattle.host.specs.declared.calls.Script.{Script}
+use Rattle.base.specs.declared.files.FileKind.TheVariants.{Plain}
 use Rattle.host.specs.declared.calls.Script.TheVariants.{Preinst, Postinst, Prerm, Postrm}
-use Rattle.host.specs.declared.calls.Action.{Action}
 use Rattle.host.specs.declared.calls.Action.TheVariants.{Install, Upgrade, AbortInstall, AbortUpgrade, FailedUpgrade}
-use Rattle.host.specs.declared.line.ArgumentRow.{ArgumentRow}
 use Rattle.host.specs.declared.line.ArgumentRow.TheVariants.{Version, Nothing}
-use Rattle.status.specs.declared.rows.Flag.{Flag}
 use Rattle.status.specs.declared.rows.Flag.TheVariants.{Ok, Reinstreq}
 use Rattle.status.specs.declared.rows.State.{State}
 use Rattle.status.specs.declared.rows.State.TheVariants.{ConfigFiles, HalfInstalled, Unpacked, HalfConfigured, Installed}

@@ -1,5 +1,5 @@
 -- A station at a moment, and what a call that was not refused comes to.
-use Rattle.std.specs.Prelude.{◌≡◌, ℕ, Bool, true, false, cond, List, [], ◌∷◌, ◌++◌, length, Some, None, Option}
+use Rattle.std.specs.Prelude.{◌≡◌, ℕ, cond, List, ◌++◌, length, Some, None, Option}
 use Rattle.base.specs.declared.texts.ShortText.{ShortText}
 use Rattle.host.specs.declared.line.Line.{Line}
 use Rattle.host.specs.Hosts.{Meaning, Runs}

@@ -1,10 +1,10 @@
 -- Configure, remove and purge: which scripts are asked, and what each comes to when it works or fails.
-use Rattle.std.specs.Prelude.{ℕ, Bool, true, false, cond, not, ◌&&◌, Some, None, Option}
+use Rattle.std.specs.Prelude.{ℕ, Bool, true, false, cond, Some, None, Option}
 use Rattle.base.specs.declared.texts.ShortText.{ShortText}
 use Rattle.base.specs.declared.files.FileKind.{FileKind}
 use Rattle.base.specs.declared.files.FileKind.TheVariants.{Plain, Conffile}
 use Rattle.host.specs.declared.calls.Script.{Script}
-use Rattle.host.specs.declared.calls.Script.TheVariants.{Preinst, Postinst, Prerm, Postrm}
+use Rattle.host.specs.declared.calls.Script.TheVariants.{Postinst, Prerm, Postrm}
 use Rattle.host.specs.declared.calls.Action.{Action}
 use Rattle.host.specs.declared.calls.Action.TheVariants.{Configure, Remove, Purge, AbortRemove}
 use Rattle.host.specs.declared.line.ArgumentRow.{ArgumentRow}
@@ -17,7 +17,7 @@ use Rattle.status.specs.declared.rows.Owned.{Owned}
 use Rattle.store.specs.Sides.{Sides}
 use Rattle.steps.specs.declared.pass.Pass.{Pass}
 use Rattle.steps.specs.declared.pass.Pass.TheVariants.{Settle, Clear, Wipe}
-use Rattle.steps.specs.Owners.{same_name, own_sides}
+use Rattle.steps.specs.Owners.{own_sides}
 pub use Rattle.books.specs.Owners.{same_kind, unowned}
 use Rattle.plans.specs.declared.calls.Outcome.{Outcome}
 use Rattle.plans.specs.declared.calls.Outcome.TheVariants.{Done, Stopped, Late}

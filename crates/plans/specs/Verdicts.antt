@@ -1,5 +1,5 @@
 -- Which calls are refused, and what a call does.
-use Rattle.std.specs.Prelude.{◌≡◌, ℕ, ◌+◌, Bool, true, false, cond, not, ◌&&◌, ◌||◌, List, [], ◌∷◌, length, is_some, Some, None, Ok, Err, Option, Result, nat_le, nat_lt}
+use Rattle.std.specs.Prelude.{◌≡◌, ℕ, ◌+◌, Bool, cond, not, ◌&&◌, List, [], ◌∷◌, length, is_some, Some, None, Ok, Err, Option, Result, nat_le, nat_lt}
 use Rattle.base.specs.declared.texts.ShortText.{ShortText}
 use Rattle.base.specs.declared.reasons.Reason.{Reason}
 use Rattle.base.specs.declared.reasons.Reason.TheVariants.{TraceFull, RecordsFull, OwnedByOther, KindDiffers, NoRecord, WrongState, OwnersFull}
@@ -10,7 +10,6 @@ use Rattle.status.specs.declared.rows.Owned.{Owned}
 use Rattle.store.specs.Sides.{Sides}
 use Rattle.steps.specs.Wares.{Ware}
 use Rattle.steps.specs.Goods.{Goods, goods_in, name_row_in}
-use Rattle.steps.specs.Owners.{same_name}
 use Rattle.books.specs.Limits.{records_most, owners_most}
 use Rattle.books.specs.Owners.{any_of, foreign_at, differs_at, fresh_count}
 use Rattle.plans.specs.declared.calls.Operation.{Operation}
