@@ -1,6 +1,6 @@
 -- Every package within the rules is accepted in its encoding, and read back as it was.
 use Rattle.std.proofs.Common.{◌≡◌, ℕ, suc, ◌+◌, ◌*◌, ◌^◌, ◌<◌, ◌≤◌, Bool, true, false, cond, eqb, List, [], ◌∷◌, ◌++◌, length, None, sym, refl, ap, ◌∙◌, subst, ap₂, append_assoc, add-zero, arith, length-append}
-use Rattle.std.specs.List.{flat_map, AllByRecursion as All}
+use Rattle.std.specs.List.{flat_map, AllByRecursion}
 use Rattle.std.proofs.lemmas.Bool.{and_parts, ne_eqb}
 use Rattle.std.proofs.lemmas.Bool.Decides.{nat_tests}
 use Rattle.base.specs.declared.files.FileKind.{FileKind}
@@ -24,12 +24,12 @@ follow_low : (kind : TextKind) (b : ℕ) → may_follow kind b ≡ true → b < 
 follow_low Name b h = grind (arith, nat_tests)
 follow_low Version b h = grind (arith, nat_tests)
 
-all_low : (kind : TextKind) (bs : List ℕ) → all (may_follow kind) bs ≡ true → All (λ b. b < 256) bs
+all_low : (kind : TextKind) (bs : List ℕ) → all (may_follow kind) bs ≡ true → AllByRecursion (λ b. b < 256) bs
 all_low kind [] h = tt
 all_low kind (b ∷ bs) h =
     let p = and_parts (may_follow kind b) (all (may_follow kind) bs) h in (follow_low kind b p.0, all_low kind bs p.1)
 
-pub spelled_low : (kind : TextKind) (bs : List ℕ) → spelled kind bs ≡ true → All (λ b. b < 256) bs
+pub spelled_low : (kind : TextKind) (bs : List ℕ) → spelled kind bs ≡ true → AllByRecursion (λ b. b < 256) bs
 spelled_low kind [] h = tt
 spelled_low kind (b ∷ bs) h =
     let p = and_parts (may_begin kind b) (all (may_follow kind) bs) h in (begin_low kind b p.0, all_low kind bs p.1)
@@ -39,7 +39,7 @@ fitting_bounds Name n h = (grind (arith, nat_tests), grind (arith, nat_tests))
 fitting_bounds Version n h = (grind (arith, nat_tests), grind (arith, nat_tests))
 
 -- a content, of no words or some, before an item
-content_run : (bs : List ℕ) (count floor place : ℕ) (rest : List ℕ) → All (λ b. b < 256) bs
+content_run : (bs : List ℕ) (count floor place : ℕ) (rest : List ℕ) → AllByRecursion (λ b. b < 256) bs
     → Ran (contents (length (text_words bs)) (item count floor)) (item count floor) place (text_words bs ++ rest) rest bs (length (text_words bs))
 content_run [] count floor place rest u = record {
   run = ap (λ (p : ℕ). refusal (item count floor) p rest) (sym (add-zero place));
@@ -71,7 +71,7 @@ tail_step place f fs =
 same_carried : (f : Carried) (k : FileKind) (p : ℕ) (c : List ℕ) → k ≡ f.kind → p ≡ f.path → c ≡ f.content → record { kind = k; path = p; content = c } ≡ f
 same_carried f k p c ek ep ec = λ i. record { kind = ek i; path = ep i; content = ec i }
 
-pub run_files : (fs : List Carried) (count floor place : ℕ) → count + length fs ≤ 24 → Rising floor fs → All Fits fs → place + length (flat_map file_words fs) < 2 ^ 28
+pub run_files : (fs : List Carried) (count floor place : ℕ) → count + length fs ≤ 24 → Rising floor fs → AllByRecursion Fits fs → place + length (flat_map file_words fs) < 2 ^ 28
     → (refusal (item count floor) place (tail place fs) ≡ None) × (files_in (item count floor) (tail place fs) ≡ fs)
 run_files [] count floor place few rise fit low =
     let e : place + 0 ≡ place = omega arith in

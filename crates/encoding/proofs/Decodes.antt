@@ -1,6 +1,6 @@
 -- Words that pass the checks are the encoding of what stands in them: texts and files.
 use Rattle.std.proofs.Common.{◌≡◌, ℕ, zero, suc, ◌+◌, ◌-◌, ◌*◌, ◌<◌, ◌≤◌, min, Bool, true, false, cond, ◌&&◌, ◌||◌, eqb, ltb, leb, List, [], ◌∷◌, ◌++◌, length, None, sym, refl, ap, ◌∙◌, subst, ap₂, append-nil, add-zero, arith, length-append}
-use Rattle.std.specs.List.{AllByRecursion as All}
+use Rattle.std.specs.List.{AllByRecursion}
 use Rattle.std.proofs.ByRecursion.{All-append, All-take}
 use Rattle.std.proofs.lemmas.List.{length-take}
 use Rattle.std.proofs.lemmas.Bool.{and_parts, eqb-true, eqb-false, leb-true, leb-false, ltb-true, both_ways}
@@ -26,7 +26,7 @@ pub record Decoded (rule : TextRule) (left : ℕ) (begun : Bool) (after : Due) (
   pub words : text_words bs ++ rest ≡ ws
   pub sized : Sized rule bs left
   pub right : right_bytes rule begun bs ≡ true
-  pub low : All (λ b. b < 256) bs
+  pub low : AllByRecursion (λ b. b < 256) bs
   pub run : refusal after (place + length (text_words bs)) rest ≡ None
   pub same : files ≡ files_in after rest
   pub shorter : length rest < length ws
@@ -98,7 +98,7 @@ text_decodes (w ∷ ws) rule left begun after place r h =
           words = ap (λ (x : List ℕ). text_words x ++ ws) z ∙ ap (λ (x : List ℕ). x ++ ws) one;
           sized = subst (λ (x : List ℕ). Sized rule x left) (sym z) (sized_last rule left w r l c len (carried_length w n.1));
           right = ap (right_bytes rule begun) z ∙ s;
-          low = subst (λ (x : List ℕ). All (λ b. b < 256) x) (sym z) (All-take (λ b. b < 256) (byte_count w) (three w) (three_low w));
+          low = subst (λ (x : List ℕ). AllByRecursion (λ b. b < 256) x) (sym z) (All-take (λ b. b < 256) (byte_count w) (three w) (three_low w));
           run = ap (λ (m : ℕ). refusal after (place + m) ws) (ap (λ (x : List ℕ). length (text_words x)) z ∙ len) ∙ f;
           same = refl;
           shorter = omega arith;
@@ -127,7 +127,7 @@ text_decodes (w ∷ ws) rule left begun after place r h =
 pub record Held (words count floor place : ℕ) (ws bs rest : List ℕ) (files : List Carried) : Type 0 where
   pub split : text_words bs ++ rest ≡ ws
   pub long : length (text_words bs) ≡ words
-  pub low : All (λ b. b < 256) bs
+  pub low : AllByRecursion (λ b. b < 256) bs
   pub run : refusal (item count floor) (place + words) rest ≡ None
   pub same : files ≡ files_in (item count floor) rest
   pub shorter : length rest ≤ length ws
@@ -158,7 +158,7 @@ pub record Filed (count floor place : ℕ) (ws : List ℕ) (fs : List Carried) :
   pub words : tail place fs ≡ ws
   pub few : count + length fs ≤ 24
   pub rising : Rising floor fs
-  pub fits : All Fits fs
+  pub fits : AllByRecursion Fits fs
 
 item_none : (count floor place w : ℕ) → item_fault count floor place w ≡ None
     → ((is_file w || is_end w) ≡ true) × (cond (is_end w) (must (eqb (end_count w) place) WrongEndCount None) (must (ltb count 24 && leb (content_length w) 32) OutsideLimits (must (leb floor (path w)) PathNotRising None)) ≡ None)
@@ -227,6 +227,6 @@ files_decode (suc m) (w ∷ ws) count floor place l c h =
         (omega arith) n.2 i.rising
         (record { low = omega arith; bytes = d.low; short = let a = d.long in let b = n.1 in omega arith }) i.fits
       where
-        filed_cons : (y : Carried) (ys zs : List Carried) → ys ≡ zs → tail place (y ∷ zs) ≡ w ∷ ws → count + suc (length zs) ≤ 24 → floor ≤ y.path → Rising (y.path + 1) zs → Fits y → All Fits zs → Filed count floor place (w ∷ ws) (y ∷ ys)
+        filed_cons : (y : Carried) (ys zs : List Carried) → ys ≡ zs → tail place (y ∷ zs) ≡ w ∷ ws → count + suc (length zs) ≤ 24 → floor ≤ y.path → Rising (y.path + 1) zs → Fits y → AllByRecursion Fits zs → Filed count floor place (w ∷ ws) (y ∷ ys)
         filed_cons y ys zs g ws' few low rise fit fits =
             subst (λ (t : List Carried). Filed count floor place (w ∷ ws) (y ∷ t)) (sym g) (record { words = ws'; few = few; rising = (low, rise); fits = (fit, fits) })

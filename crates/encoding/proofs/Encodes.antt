@@ -1,6 +1,6 @@
 -- What is encoded passes the checks, and is read back.
 use Rattle.std.proofs.Common.{◌≡◌, ℕ, suc, ◌+◌, ◌-◌, ◌*◌, ◌%◌, ◌^◌, ◌<◌, ◌≤◌, min, Bool, true, false, leb, List, [], ◌∷◌, ◌++◌, length, take, refl, ◌∙◌, subst, arith}
-use Rattle.std.specs.List.{AllByRecursion as All}
+use Rattle.std.specs.List.{AllByRecursion}
 use Rattle.std.proofs.lemmas.Bool.{and_from, and_parts, eq-eqb, le-leb, lt-leb}
 use Rattle.base.specs.Texts.{all, may_begin, may_follow}
 use Rattle.package.specs.declared.rules.TextRule.{TextRule}
@@ -67,7 +67,7 @@ run_last rule left begun after place rest n a b c bs h i j k z e l r s =
     (ran_last rule left begun after place (text_word n a b c) ok rest l)
 
 pub run_text : (bs : List ℕ) (rule : TextRule) (left : ℕ) (begun : Bool) (after : Due) (place : ℕ) (rest : List ℕ)
-    → 1 ≤ length bs → Sized rule bs left → right_bytes rule begun bs ≡ true → All (λ b. b < 256) bs
+    → 1 ≤ length bs → Sized rule bs left → right_bytes rule begun bs ≡ true → AllByRecursion (λ b. b < 256) bs
     → Ran (text rule left begun after) after place (text_words bs ++ rest) rest bs (length (text_words bs))
 run_text [] rule left begun after place rest h s r u = absurd (omega arith)
 run_text (a ∷ []) rule left begun after place rest h s r u =

@@ -1,6 +1,6 @@
 -- Words that are made have the fields that they were made of, and words that pass the checks are made of their fields.
 use Rattle.std.proofs.Common.{◌≡◌, ℕ, ◌+◌, ◌-◌, ◌*◌, ◌/◌, ◌%◌, ◌^◌, ◌<◌, ◌≤◌, Bool, true, false, cond, ◌&&◌, ◌||◌, eqb, List, [], ◌∷◌, ◌++◌, take, None, sym, refl, ap, ◌∙◌, subst, ap₂, ⊎_elim, arith}
-use Rattle.std.specs.List.{AllByRecursion as All}
+use Rattle.std.specs.List.{AllByRecursion}
 use Rattle.std.proofs.lemmas.Bool.{and_from, and_parts, or_right, or_cases, eq-eqb, eqb-true, lt-ltb, le-leb, cases_eq}
 use Rattle.base.specs.declared.reasons.Reason.TheVariants.{WrongWord, OutsideLimits}
 use Rattle.package.specs.declared.rules.TextRule.{TextRule}
@@ -158,7 +158,7 @@ word_front w bs h e =
     ∙ ap (λ (x : ℕ). x ∷ text_words bs) (ap (λ (n : ℕ). text_word n (w / 2 ^ 16 % 2 ^ 8) (w / 2 ^ 8 % 2 ^ 8) (w % 2 ^ 8)) (sym e) ∙ sym p)
 
 -- the bytes of a word
-pub three_low : (w : ℕ) → All (λ b. b < 256) (three w)
+pub three_low : (w : ℕ) → AllByRecursion (λ b. b < 256) (three w)
 three_low w = (omega arith, (omega arith, (omega arith, tt)))
 
 pub end_made : (w place : ℕ) → is_end w ≡ true → end_count w ≡ place → end_word place ≡ w

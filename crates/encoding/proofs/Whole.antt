@@ -1,6 +1,6 @@
 -- A whole package, and a name alone, from what they carry to their words and back.
 use Rattle.std.proofs.Common.{◌≡◌, ℕ, ◌+◌, ◌*◌, ◌≤◌, Bool, true, false, ◌&&◌, eqb, List, [], ◌∷◌, ◌++◌, length, None, sym, refl, ap, ◌∙◌, ap₂, append_assoc, append-nil, arith, length-append}
-use Rattle.std.specs.List.{flat_map, AllByRecursion as All}
+use Rattle.std.specs.List.{flat_map, AllByRecursion}
 use Rattle.std.proofs.lemmas.Bool.{and_from, and_parts, eq-eqb}
 use Rattle.base.specs.declared.reasons.Reason.TheVariants.{WrongWord, OutsideLimits}
 use Rattle.base.specs.declared.texts.TextKind.{TextKind}
@@ -23,7 +23,7 @@ words_short (a ∷ []) = omega arith
 words_short (a ∷ b ∷ []) = omega arith
 words_short (a ∷ b ∷ c ∷ bs) = let h = words_short bs in omega arith
 
-files_short : (fs : List Carried) → All Fits fs → length (flat_map file_words fs) ≤ 33 * length fs
+files_short : (fs : List Carried) → AllByRecursion Fits fs → length (flat_map file_words fs) ≤ 33 * length fs
 files_short [] h = omega arith
 files_short (f ∷ fs) h =
     let i = files_short fs h.1 in
@@ -81,7 +81,7 @@ head_fine n v hn hv =
     (ap (fitting Name) (head_name (length n) (length v) l m) ∙ (and_parts (fitting Name (length n)) (spelled Name n) hn).0)
     (ap (fitting Version) (head_version (length n) (length v) l m) ∙ (and_parts (fitting Version (length v)) (spelled Version v) hv).0))
 
-files_run : (n v : List ℕ) (fs : List Carried) → allowed Name n ≡ true → allowed Version v ≡ true → length fs ≤ 24 → Rising 0 fs → All Fits fs
+files_run : (n v : List ℕ) (fs : List Carried) → allowed Name n ≡ true → allowed Version v ≡ true → length fs ≤ 24 → Rising 0 fs → AllByRecursion Fits fs
     → (refusal (item 0 0) (0 + 1 + length (text_words n) + length (text_words v)) (tail (0 + 1 + length (text_words n) + length (text_words v)) fs) ≡ None)
     × (files_in (item 0 0) (tail (0 + 1 + length (text_words n) + length (text_words v)) fs) ≡ fs)
 files_run n v fs hn hv few rise fit =
@@ -92,7 +92,7 @@ files_run n v fs hn hv few rise fit =
     let e = files_short fs fit in
     run_files fs 0 0 (0 + 1 + length (text_words n) + length (text_words v)) (omega arith) rise fit (omega arith)
 
-laid_accepted : (n v : List ℕ) (fs : List Carried) → allowed Name n ≡ true → allowed Version v ≡ true → length fs ≤ 24 → Rising 0 fs → All Fits fs
+laid_accepted : (n v : List ℕ) (fs : List Carried) → allowed Name n ≡ true → allowed Version v ≡ true → length fs ≤ 24 → Rising 0 fs → AllByRecursion Fits fs
     → package_refusal (head_word (length n) (length v) ∷ laid n v fs) ≡ None
 laid_accepted n v fs hn hv few rise fit =
     refusal_on package_head 0 (head_word (length n) (length v)) (laid n v fs) (head_fine n v hn hv)
@@ -101,7 +101,7 @@ laid_accepted n v fs hn hv few rise fit =
     ∙ (named_run Version v (item 0 0) (0 + 1 + length (text_words n)) (tail (0 + 1 + length (text_words n) + length (text_words v)) fs) hv).run
     ∙ (files_run n v fs hn hv few rise fit).0
 
-laid_files : (n v : List ℕ) (fs : List Carried) → allowed Name n ≡ true → allowed Version v ≡ true → length fs ≤ 24 → Rising 0 fs → All Fits fs
+laid_files : (n v : List ℕ) (fs : List Carried) → allowed Name n ≡ true → allowed Version v ≡ true → length fs ≤ 24 → Rising 0 fs → AllByRecursion Fits fs
     → files_in package_head (head_word (length n) (length v) ∷ laid n v fs) ≡ fs
 laid_files n v fs hn hv few rise fit =
     ap (λ (d : Due). files_in d (laid n v fs)) (due_behind n v hn hv)

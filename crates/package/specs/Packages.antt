@@ -1,6 +1,6 @@
 -- Packages by what they carry, and their encoding in words.
 use Rattle.std.specs.Prelude.{◌≡◌, ℕ, ◌+◌, ◌-◌, ◌*◌, ◌^◌, ◌<◌, ◌≤◌, true, false, cond, List, [], ◌∷◌, ◌++◌, length, nat_le}
-use Rattle.std.specs.List.{flat_map, AllByRecursion as All}
+use Rattle.std.specs.List.{flat_map, AllByRecursion}
 use Rattle.base.specs.declared.files.FileKind.{FileKind}
 use Rattle.base.specs.declared.files.FileKind.TheVariants.{Plain, Conffile}
 use Rattle.base.specs.declared.texts.TextKind.TheVariants.{Name, Version}
@@ -58,7 +58,7 @@ name_encoded name = head_word (length name) 0 ∷ text_words name
 -- the rules of a package: name and version are allowed, at most 24 files, their paths rise
 pub record Fits (f : Carried) : Type 0 where
   pub low : f.path < 256
-  pub bytes : All (λ b. b < 256) f.content
+  pub bytes : AllByRecursion (λ b. b < 256) f.content
   pub short : length (text_words f.content) ≤ 32
 
 abbrev pub Rising : ℕ → List Carried → Type 0
@@ -70,7 +70,7 @@ pub record Within (p : Contents) : Type 0 where
   pub versioned : allowed Version p.version ≡ true
   pub few : length p.files ≤ 24
   pub rising : Rising 0 p.files
-  pub fitting : All Fits p.files
+  pub fitting : AllByRecursion Fits p.files
 
 -- what stands in words: the text that is due, the words behind it, and the files
 abbrev pub text_in : Due → List ℕ → List ℕ
