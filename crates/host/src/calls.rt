@@ -1,6 +1,6 @@
 use base::{Name, Version};
 
-// A package's four maintainer scripts. Their numbers are given by `script-number` of specs/Calls.antt.
+// A package's four maintainer scripts. Their numbers are given by `script_number` of specs/Calls.antt.
 #[derive(Clone, Copy, PartialEq, Eq)]
 pub enum Script {
     Preinst,
@@ -9,7 +9,7 @@ pub enum Script {
     Postrm,
 }
 
-// What a script is asked to do. The numbers are given by `action-number` of specs/Calls.antt.
+// What a script is asked to do. The numbers are given by `action_number` of specs/Calls.antt.
 #[derive(Clone, Copy, PartialEq, Eq)]
 pub enum Action {
     Install,

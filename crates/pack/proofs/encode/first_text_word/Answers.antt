@@ -12,5 +12,5 @@ pub returns-in-len3-up : goal.returns-in-len3-up
 returns-in-len3-up c =
     let text = c.args.text.now in
     let h : 3 ≤ length text = search rules in
-    let e : c.text-word-in-len3-up.result ≡ text_word 3 (get_or text 0 0) (get_or text 1 0) (get_or text 2 0) = search rules in
-    three_bytes text c.text-word-in-len3-up.result h e
+    let e : c.text_word-in-len3-up.result ≡ text_word 3 (get_or text 0 0) (get_or text 1 0) (get_or text 2 0) = search rules in
+    three_bytes text c.text_word-in-len3-up.result h e
