@@ -3,9 +3,11 @@ use Rattle.std.proofs.Common.{◌≡◌, ℕ, zero, suc, ◌-◌, ◌≤◌, Boo
 use mathlib.Core.HLevel.{is_prop→PathP}
 use mathlib.Core.Bool.{Bool-set}
 use Rattle.std.specs.Str.{bytes_eq}
-use Rattle.std.proofs.lemmas.Slice.Eq.{bytes_eq-Decides}
+use Rattle.std.proofs.lemmas.Slice.Eq.{bytes_eq-Decides, slice_eq-Decides}
 use Rattle.std.proofs.lemmas.Bool.{and_parts}
-use Rattle.std.proofs.lemmas.Bool.Decides.{nat_tests}
+use Rattle.std.proofs.lemmas.Bool.Decides.{nat_tests, Decides-eqb}
+use Rattle.std.specs.Prelude.{Decides, nat_eq}
+use Rattle.std.specs.Cmp.Lexicographic.{pointwise}
 use Rattle.base.specs.declared.texts.ShortText.{ShortText}
 use Rattle.base.specs.declared.texts.TextKind.{TextKind}
 use Rattle.base.specs.declared.texts.TextKind.TheVariants.{Name as name, Version as version}
@@ -114,6 +116,22 @@ told_name m n e = same_name m n (same_row m.row n.row (told name m.row.bytes n.r
 
 pub told_version : (v w : Version) → version_text v ≡ version_text w → v ≡ w
 told_version v w e = same_version v w (same_row v.row w.row (told version v.row.bytes w.row.bytes v.allowed w.allowed e))
+
+-- what `==` computes decides equality
+pub rows_decide : (a b : ShortText) → Decides (pointwise nat_eq a.bytes b.bytes) (a ≡ b)
+rows_decide a b =
+    let d = slice_eq-Decides Decides-eqb a.bytes b.bytes _ refl in
+    (λ t. same_row a b (d.0 t), λ e. d.1 (λ i. (e i).bytes))
+
+pub names_decide : (m n : Name) → Decides (pointwise nat_eq m.row.bytes n.row.bytes) (m ≡ n)
+names_decide m n =
+    let d = rows_decide m.row n.row in
+    (λ t. same_name m n (d.0 t), λ e. d.1 (λ i. (e i).row))
+
+pub versions_decide : (v w : Version) → Decides (pointwise nat_eq v.row.bytes w.row.bytes) (v ≡ w)
+versions_decide v w =
+    let d = rows_decide v.row w.row in
+    (λ t. same_version v w (d.0 t), λ e. d.1 (λ i. (e i).row))
 
 follow_solid : (kind : TextKind) (bs : List ℕ) → all (may_follow kind) bs ≡ true → all (ltb 0) bs ≡ true
 follow_solid kind [] h = refl

@@ -1,5 +1,6 @@
 -- The text of a name and of a version, and what their constructors answer.
-use Rattle.std.specs.Prelude.{◌≡◌, ℕ, cond, List, Some, None, Option}
+use Rattle.std.specs.Prelude.{◌≡◌, ℕ, cond, List, Some, None, Option, Decides, nat_eq}
+use Rattle.std.specs.Cmp.Lexicographic.{pointwise}
 use Rattle.base.specs.declared.texts.ShortText.{ShortText}
 use Rattle.base.specs.declared.texts.TextKind.{TextKind}
 use Rattle.base.specs.declared.name.Name.{Name}
@@ -31,3 +32,9 @@ version_rows (Some v) = Some v.row
 -- equal bytes are equal values
 abbrev pub ToldByText : Type 0
 ToldByText = ((m n : Name) → name_text m ≡ name_text n → m ≡ n) × ((v w : Version) → version_text v ≡ version_text w → v ≡ w)
+
+-- what `==` computes of rows, names and versions decides whether the values are equal
+pub record EqualityDecides : Type 0 where
+  pub rows : (a b : ShortText) → Decides (pointwise nat_eq a.bytes b.bytes) (a ≡ b)
+  pub names : (m n : Name) → Decides (pointwise nat_eq m.row.bytes n.row.bytes) (m ≡ n)
+  pub versions : (v w : Version) → Decides (pointwise nat_eq v.row.bytes w.row.bytes) (v ≡ w)

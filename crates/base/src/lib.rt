@@ -14,7 +14,7 @@ mod version;
 mod versions;
 
 pub use files::FileKind;
-pub use laws::told_by_text;
+pub use laws::{equality_decides, told_by_text};
 pub use name::Name;
 pub use reasons::{Layer, Reason, Refusal};
 pub use texts::{ShortText, TextKind};
