@@ -6,26 +6,22 @@ pub trait Store {
     // The length of a block, in words.
     const BLOCK: usize;
 
-    // what BLOCK is, for clauses
-    ghost block: { ℕ };
+    ghost BLOCK: { ℕ };
 
     ghost units: { Self → ℕ };
 
     ghost files: { Self → Files };
 
     // What each store proves: a block has a word at least, each key has its place, and the files held fit.
-    ghost wide: { 1 ≤ block };
+    ghost wide: { 1 ≤ BLOCK };
 
     ghost keys: { (s : Self) → length (files s) ≡ key_count };
 
-    ghost room: { (s : Self) → used block (files s) ≤ units s };
-
-    fn block_len() -> usize
-        ensures { result ≡ block };
+    ghost room: { (s : Self) → used BLOCK (files s) ≤ units s };
 
     // Holds the words under the key, in the place of what was there; false where that is refused, and then nothing changes.
     fn put(&mut self, key: usize, words: &[u32]) -> bool
-        ensures answer { result ≡ admits block (units self.old) (files self.old) key words.now }
+        ensures answer { result ≡ admits BLOCK (units self.old) (files self.old) key words.now }
         ensures files { files self.new ≡ (if result then slice_set (files self.old) key (Some words.now) else files self.old) }
         ensures units { units self.new ≡ units self.old };
 
@@ -41,7 +37,10 @@ pub trait Store {
 
     // Whether the key holds a file.
     fn held(&self, key: usize) -> bool
-        ensures { result ≡ is_some (file_at (files self.now) key) };
+        ensures { result ≡ is_some (file_at (files self.now) key) }
+    {
+        self.length(key).is_some()
+    }
 
     // How many words the key holds; `None` where it is empty.
     fn length(&self, key: usize) -> Option<usize>
@@ -49,5 +48,5 @@ pub trait Store {
 
     // The words of the key's file from block `at` on, as far as they stand together: one block's. They are lent, not copied.
     fn part(&self, key: usize, at: usize) -> &[u32]
-        ensures { result.now ≡ take block (drop (at * block) (words_of (file_at (files self.now) key))) };
+        ensures { result.now ≡ take BLOCK (drop (at * BLOCK) (words_of (file_at (files self.now) key))) };
 }

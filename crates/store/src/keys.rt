@@ -19,11 +19,5 @@ pub fn key(path: u8, side: Side) -> usize
     ensures is { result ≡ key_of path side }
     ensures small { result < key_count }
 {
-    let number = match side {
-        Side::Place => 0,
-        Side::Aside => 1,
-        Side::Pending => 2,
-        Side::PendingAside => 3,
-    };
-    SIDES * path as usize + number
+    SIDES * path as usize + side as usize
 }

@@ -8,55 +8,23 @@ use crate::side::Side;
 // The store's three calls on one side of a path. Their contracts speak of paths alone, as what is built on a store does.
 
 pub fn put_side<S: Store>(store: &mut S, path: u8, side: Side, words: &[u32]) -> bool
-    ensures answer { result ≡ admits_side S.Store.block (S.Store.units store.old) (sides_at (S.Store.files store.old)) path side words.now }
+    ensures answer { result ≡ admits_side S.Store.BLOCK (S.Store.units store.old) (sides_at (S.Store.files store.old)) path side words.now }
     ensures sides { sides_at (S.Store.files store.new) ≡ (if result then change path (with_side side (Some words.now)) (sides_at (S.Store.files store.old)) else sides_at (S.Store.files store.old)) }
     ensures units { S.Store.units store.new ≡ S.Store.units store.old }
 {
-    let at = key(path, side);
-    put_at(store, path, side, at, words)
+    store.put(key(path, side), words)
 }
 
 pub fn carry_side<S: Store>(store: &mut S, path: u8, from: Side, to: Side)
     ensures sides { sides_at (S.Store.files store.new) ≡ change path (carried from to) (sides_at (S.Store.files store.old)) }
     ensures units { S.Store.units store.new ≡ S.Store.units store.old }
 {
-    let source = key(path, from);
-    let target = key(path, to);
-    carry_at(store, path, from, to, source, target)
+    store.carry(key(path, from), key(path, to));
 }
 
 pub fn clear_side<S: Store>(store: &mut S, path: u8, side: Side)
     ensures sides { sides_at (S.Store.files store.new) ≡ change path (with_side side None) (sides_at (S.Store.files store.old)) }
     ensures units { S.Store.units store.new ≡ S.Store.units store.old }
 {
-    let at = key(path, side);
-    clear_at(store, path, side, at)
-}
-
-// The same, where the key is at hand.
-
-fn put_at<S: Store>(store: &mut S, path: u8, side: Side, at: usize, words: &[u32]) -> bool
-    requires { at ≡ key_of path side }
-    ensures answer { result ≡ admits_side S.Store.block (S.Store.units store.old) (sides_at (S.Store.files store.old)) path side words.now }
-    ensures sides { sides_at (S.Store.files store.new) ≡ (if result then change path (with_side side (Some words.now)) (sides_at (S.Store.files store.old)) else sides_at (S.Store.files store.old)) }
-    ensures units { S.Store.units store.new ≡ S.Store.units store.old }
-{
-    store.put(at, words)
-}
-
-fn carry_at<S: Store>(store: &mut S, path: u8, from: Side, to: Side, source: usize, target: usize)
-    requires source { source ≡ key_of path from }
-    requires target { target ≡ key_of path to }
-    ensures sides { sides_at (S.Store.files store.new) ≡ change path (carried from to) (sides_at (S.Store.files store.old)) }
-    ensures units { S.Store.units store.new ≡ S.Store.units store.old }
-{
-    store.carry(source, target)
-}
-
-fn clear_at<S: Store>(store: &mut S, path: u8, side: Side, at: usize)
-    requires { at ≡ key_of path side }
-    ensures sides { sides_at (S.Store.files store.new) ≡ change path (with_side side None) (sides_at (S.Store.files store.old)) }
-    ensures units { S.Store.units store.new ≡ S.Store.units store.old }
-{
-    store.clear(at)
+    store.clear(key(path, side));
 }

@@ -1,12 +1,12 @@
-// Which of the files of a path. What each is for stands in the order of their numbers.
+// Which of the files of a path.
 #[derive(Clone, Copy, PartialEq, Eq)]
 pub enum Side {
     // the file in place
-    Place,
+    Place = 0,
     // that file, set aside
-    Aside,
+    Aside = 1,
     // a conffile that waits for its place
-    Pending,
+    Pending = 2,
     // a pending one, set aside
-    PendingAside,
+    PendingAside = 3,
 }
