@@ -1,7 +1,9 @@
 pub mod Fields
 pub mod Gathers
+pub mod Handing
 pub mod ItemRuns
 pub mod Parting
+pub mod Placed
 pub mod Splits
 pub mod Tests
 pub mod TextRuns

@@ -1,7 +1,7 @@
 use Rattle.std.proofs.Common.{◌∙◌}
 use Rattle.base.specs.declared.texts.TextKind.TheVariants.{Name as name}
 use Rattle.base.proofs.Rows.{before_rows}
-use Rattle.base.proofs.name.Name.before.Goals as goal
+use Rattle.base.proofs.names.Text+NameKind.before.Goals as goal
 
 pub returns : goal.returns
 returns c =
