@@ -1,5 +1,5 @@
 ghost use Rattle.std.specs.Prelude.{◌≡◌};
-ghost use Rattle.base.specs.Named.{version_rows};
+ghost use Rattle.base.specs.Named.{row_in};
 ghost use Rattle.status.specs.Rows.{unnoted, noting, noted_row};
 
 use crate::rows::Noted;
@@ -27,7 +27,7 @@ impl Noted {
 
     // The version, if one is noted and its text is allowed.
     pub fn version(&self) -> Option<Version>
-        ensures { version_rows result ≡ noted_row self.now }
+        ensures { row_in result ≡ noted_row self.now }
     {
         if self.there {
             Version::from_row(self.text)
