@@ -25,6 +25,10 @@ or_run_left : (a b : Option Refusal) → or_run a b ≡ None → a ≡ None
 or_run_left None b h = refl
 or_run_left (Some r) b h = some_none r h
 
+pub or_run_right : (a b : Option Refusal) → or_run a b ≡ None → b ≡ None
+or_run_right None b h = h
+or_run_right (Some r) b h = some_none r h
+
 -- a first word without a fault begins an item
 item_there : (stage : Stage) (place w : ℕ) (ws : List ℕ) → refusal (due_at stage) place (w ∷ ws) ≡ None → Ok (handed stage place w ws) ≡ item_at stage place (w ∷ ws)
 item_there stage place w ws h =

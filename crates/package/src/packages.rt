@@ -1,4 +1,4 @@
-ghost use Rattle.std.specs.Prelude.{◌≡◌};
+ghost use Rattle.std.specs.Prelude.{◌≡◌, ◌≤◌, length};
 ghost use Rattle.std.specs.Iterator.{YieldsFirstBy, item_count};
 ghost use Rattle.package.specs.Files.{ware_of, files_left, files_of};
 
@@ -11,6 +11,7 @@ impl<'a> Package<'a> {
     pub fn files(&self) -> Files<'a>
         ensures start { (result.items.words.now ≡ self.now.words.now) × (result.items.place ≡ self.now.first_file) × (result.items.stage ≡ Stage.Files 0 0) }
         ensures files { files_left result ≡ files_of self.now }
+        ensures few { length (files_left result) ≤ 24 }
     {
         Files {
             items: Items {

@@ -22,7 +22,6 @@ use Rattle.steps.specs.Goods.{stored, row_holding, name_row_in, goods_in}
 use Rattle.package.specs.Wares.{Ware, wares}
 use Rattle.package.proofs.Handing.{passed_over}
 use Rattle.package.proofs.Placed.{reading_of}
-use Rattle.std.proofs.lemmas.List.{length-map}
 use Rattle.steps.specs.Wares.{Distinct}
 use Rattle.steps.proofs.Restores.{Apart}
 
@@ -87,13 +86,6 @@ rising_distinct floor (f ∷ fs) r = (above f.path (f.path + 1) fs (le_refl (f.p
 pub goods_distinct : (words : List ℕ) → package_refusal words ≡ None → Distinct (goods_in words).files
 goods_distinct words h = rising_distinct 0 (package_in words).files (accepted_encoded words h).0.rising
 
--- a package carries few files, and no path twice
-pub files_few : (p : Package) → length (files_of p) ≤ 24
-files_few p =
-    let w = (accepted_encoded p.words.now (reading_of p).accepted).0 in
-    let l = length-map {A = Carried} {B = Ware} in
-    let e = ap length (files_read p) in
-    omega (arith, w.few)
-
+-- a package carries no path twice
 pub files_distinct : (p : Package) → Distinct (goods_in p.words.now).files
 files_distinct p = goods_distinct p.words.now (reading_of p).accepted

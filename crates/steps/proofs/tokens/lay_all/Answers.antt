@@ -5,7 +5,7 @@ use Rattle.package.specs.Wares.{Ware}
 use Rattle.store.specs.Sides.{sides_at}
 use Rattle.steps.specs.Steps.{room_for}
 use Rattle.steps.specs.Wares.{lay_all}
-use Rattle.steps.proofs.Goods.{files_read, files_few}
+use Rattle.steps.proofs.Goods.{files_read}
 use Rattle.steps.proofs.Layings.{turn_end, turn_stop, turn_on, byte_small}
 use Rattle.steps.proofs.tokens.lay_all.Goals as goal
 
@@ -13,13 +13,15 @@ pub overflow_add-touched : goal.overflow_add-touched
 overflow_add-touched g c =
     let l = ap length c.in-Some.ensures.steps in
     let i = c.loop-file.invariant in
-    omega (arith, files_few c.args.new.now)
+    let e = ap length c.files-file-items.ensures.files in
+    omega (arith, c.files-file-items.ensures.few)
 
 pub overflow_add-aside : goal.overflow_add-aside
 overflow_add-aside g c =
     let l = ap length c.in-Some.ensures.steps in
     let i = c.loop-file.invariant in
-    omega (arith, files_few c.args.new.now, byte_small c.lay-one.result.aside)
+    let e = ap length c.files-file-items.ensures.files in
+    omega (arith, c.files-file-items.ensures.few, byte_small c.lay-one.result.aside)
 
 pub returns-then-not-one-clause-laid : goal.returns-then-not-one-clause-laid
 returns-then-not-one-clause-laid g c =
