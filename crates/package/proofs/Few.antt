@@ -4,6 +4,7 @@ use Rattle.std.proofs.lemmas.Bool.{and_parts, ltb-true}
 use Rattle.base.specs.declared.reasons.Reason.TheVariants.{WrongWord, OutsideLimits, PathNotRising, WrongEndCount}
 use Rattle.package.specs.Accepted.{accepts, files_place}
 use Rattle.package.specs.Checks.{item, nothing, contents, must, item_fault, refusal}
+use Rattle.package.specs.Items.{content_refusal}
 use Rattle.package.specs.Wares.{wares}
 use Rattle.package.specs.Words.{content_length, end_count, file_kind, path, is_file, is_end}
 use Rattle.package.proofs.Handing.{passed_over}
@@ -36,7 +37,7 @@ few (suc m) (w ∷ ws) count floor place l c h =
         → length (cond b [] (record { kind = file_kind w; path = path w; words = take n ws } ∷ wares n ws)) + count ≤ 24
     go true e k low f ih = omega arith
     go false e k low f ih =
-        let k₁ : refusal (item (count + 1) (path w + 1)) (place + 1 + n) (drop n ws) ≡ None = or_run_right _ _ (sym (content_run n (item (count + 1) (path w + 1)) (place + 1) ws) ∙ k) in
+        let k₁ : refusal (item (count + 1) (path w + 1)) (place + 1 + n) (drop n ws) ≡ None = or_run_right (content_refusal n (place + 1) ws) _ (sym (content_run n (item (count + 1) (path w + 1)) (place + 1) ws) ∙ k) in
         let d = length-drop n ws in
         let b = low e f in
         let rest = ih (omega arith) (omega arith) k₁ in
