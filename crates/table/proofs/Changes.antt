@@ -1,6 +1,8 @@
 -- What a found key and a changed list of rows say of the table.
-use Rattle.std.proofs.Common.{◌≡◌, ℕ, ◌<◌, Bool, true, List, length, get_or, set, ap, ◌∙◌, arith, length-set, length-take-le}
+use Rattle.std.proofs.Common.{◌≡◌, ℕ, ◌<◌, Bool, true, List, length, get_or, set, take, sym, ap, ◌∙◌, arith, length-set, length-take-le}
 use Rattle.std.specs.List.{insert, remove}
+use Rattle.std.proofs.Math.Seq.{take-set-lt}
+use Rattle.std.proofs.lemmas.List.{get_or-take}
 use Rattle.std.proofs.lemmas.List.Edits.{length-insert, length-remove}
 use Rattle.table.specs.declared.key.Element as element
 use Rattle.table.specs.declared.key.Key as key
@@ -24,9 +26,17 @@ module _ {E K : Type 0} {below : K → K → Bool} {same : K → K → Type 0} (
   pub absent : (k : K) (xs : List E) → Missing below keyed k xs → Absent below keyed k xs
   absent k xs m = record { missing = m; row = look_missing total keyed k xs m }
 
--- `len` counts the rows in use
-pub live_len : {E K : Type 0} {g : element.Ghosts E K} {h : key.Ghosts K} (t : Table E K g h) → length (live t) ≡ t.len
-live_len t = length-take-le t.len t.rows.now t.within
+module _ {E K : Type 0} {g : element.Ghosts E K} {h : key.Ghosts K} (t : Table E K g h) where
+  -- `len` counts the rows in use
+  pub live_len : length (live t) ≡ t.len
+  live_len = length-take-le t.len t.rows.now t.within
+
+  -- what is read of the memory, and what is written over it, at a place in use
+  pub live_at : (i : ℕ) (x : E) → i < length (live t) → x ≡ get_or t.rows.now i x → x ≡ get_or (live t) i x
+  live_at i x lt at = at ∙ sym (get_or-take t.len t.rows.now i x (omega (arith, live_len)))
+
+  pub live_set : (i : ℕ) (e : E) (rows : List E) → i < length (live t) → rows ≡ set t.rows.now i e → take t.len rows ≡ set (live t) i e
+  live_set i e rows lt is = ap (take t.len) is ∙ take-set-lt t.len t.rows.now i e (omega (arith, live_len))
 
 module _ {E K : Type 0} {g : element.Ghosts E K} {h : key.Ghosts K} (total : Total h.below h.same) (t t' : Table E K g h) (i : ℕ) where
   pub entered : (e : E) → i ≡ rank h.below g.keyed (g.keyed e) (live t) → Absent h.below g.keyed (g.keyed e) (live t) → length (live t) < room t

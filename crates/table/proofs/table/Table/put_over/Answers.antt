@@ -1,9 +1,7 @@
-use Rattle.std.proofs.Common.{◌<◌, sym, take, ap, ◌∙◌, arith}
-use Rattle.std.proofs.Math.Seq.{take-set-lt}
-use Rattle.std.proofs.lemmas.List.{get_or-take}
+use Rattle.std.proofs.Common.{ap, ◌∙◌, arith}
 use Rattle.table.specs.Rows.{rising}
 use Rattle.table.specs.Answers.{live}
-use Rattle.table.proofs.Changes.{live_len, replaced}
+use Rattle.table.proofs.Changes.{live_len, live_at, live_set, replaced}
 use Rattle.table.proofs.Ranks.{stands_within}
 use Rattle.table.proofs.Rises.{rising_set}
 use Rattle.table.proofs.table.Table.put_over.Goals as goal
@@ -16,18 +14,16 @@ write_at-requires g c =
 pub invariant_of-self : goal.invariant_of-self
 invariant_of-self g c =
     let t = c.args.self.now in
-    let w = stands_within g.E.K.Key.below g.E.Element.keyed _ (live t) c.args.i c.requires.stands in
+    let lt = stands_within g.E.K.Key.below g.E.Element.keyed _ (live t) c.args.i c.requires.stands in
     record {
       within = omega (arith, t.within);
-      order = ap (rising g.E.K.Key.below g.E.Element.keyed) (ap (take t.len) c.write_at.ensures.rows ∙ take-set-lt t.len t.rows.now c.args.i c.args.row (omega (arith, live_len t)))
+      order = ap (rising g.E.K.Key.below g.E.Element.keyed) (live_set t c.args.i c.args.row c.write_at.new.rows lt c.write_at.ensures.rows)
           ∙ rising_set g.met.E.K.Key.total g.E.Element.keyed (live t) c.args.i c.args.row c.requires.stands t.order;
     }
 
 pub returns-clause-replaced : goal.returns-clause-replaced
 returns-clause-replaced g c =
     let t = c.args.self.now in
-    let w = stands_within g.E.K.Key.below g.E.Element.keyed _ (live t) c.args.i c.requires.stands in
-    let lt : c.args.i < t.len = omega (arith, live_len t) in
-    let old = c.write_at.result in
-    replaced g.met.E.K.Key.total t _ c.args.i c.args.row old c.requires (c.write_at.ensures.was ∙ sym (get_or-take t.len t.rows.now c.args.i old lt))
-    (ap (take t.len) c.write_at.ensures.rows ∙ take-set-lt t.len t.rows.now c.args.i c.args.row lt)
+    let lt = stands_within g.E.K.Key.below g.E.Element.keyed _ (live t) c.args.i c.requires.stands in
+    replaced g.met.E.K.Key.total t _ c.args.i c.args.row c.write_at.result c.requires (live_at t c.args.i c.write_at.result lt c.write_at.ensures.was)
+    (live_set t c.args.i c.args.row c.write_at.new.rows lt c.write_at.ensures.rows)
