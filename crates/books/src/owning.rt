@@ -1,7 +1,7 @@
-ghost use Rattle.std.specs.Prelude.{◌≡◌, ◌+◌, ◌≤◌, length, nat_lt};
+ghost use Rattle.std.specs.Prelude.{◌≡◌, ◌+◌, ◌≤◌, length};
 ghost use Rattle.package.specs.Items.{left_from};
 ghost use Rattle.package.specs.Readings.{Reading};
-ghost use Rattle.table.specs.Answers.{live, room, Sorted};
+ghost use Rattle.table.specs.Answers.{live, room};
 ghost use Rattle.steps.specs.Wares.{wares, Ready, Distinct};
 ghost use Rattle.steps.specs.Goods.{goods_in};
 ghost use Rattle.books.specs.Limits.{owners_most};
@@ -19,9 +19,7 @@ use table::Table;
 
 // The files from here on are owned by the package from now on.
 fn own_from(owners: &mut Table<'_, Owned>, name: ShortText, files: Items<'_>)
-    requires { Sorted nat_lt (λ o. o.path) owners.old }
     ensures room { room owners.new ≡ room owners.old }
-    ensures order { Sorted nat_lt (λ o. o.path) owners.new }
     ensures owned { Ready files.entry → Distinct (wares 0 (left_from files.entry)) → length (live owners.old) + fresh_count (owners_in (live owners.old)) (wares 0 (left_from files.entry)) ≤ room owners.old → FilesOwned name (wares 0 (left_from files.entry)) (live owners.old) (live owners.new) }
 {
     let Some(file) = next_file(&files) else {

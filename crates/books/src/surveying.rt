@@ -8,7 +8,6 @@ ghost use Rattle.books.specs.Changes.{owners_in};
 ghost use Rattle.books.specs.Owners.{foreign_at, differs_at, Surveyed};
 
 use crate::books::Books;
-use crate::kinds::same_kind;
 use crate::survey::Survey;
 use base::{FileKind, ShortText};
 use package::{Items, Package};
@@ -25,7 +24,7 @@ fn survey_one(owner: Option<Owned>, name: ShortText, kind: FileKind) -> Survey
     match owner {
         Some(row) => Survey {
             foreign: !same_name(row.owner, name),
-            differing: !same_kind(row.kind, kind),
+            differing: row.kind != kind,
             fresh: 0,
         },
         None => Survey {

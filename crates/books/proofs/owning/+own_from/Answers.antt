@@ -9,7 +9,6 @@ returns t c =
     let same = c.put.ensures.room in
     record {
       room = e.room ∙ same;
-      order = e.order;
       owned = λ ready distinct fits.
           let r = c.in-Some.ensures.reads ready in
           owned_more c.args.name (ware_of c.in-Some.file) _ _ _ _ _ _ c.put.result r.0 distinct fits c.put.ensures.put
