@@ -38,11 +38,6 @@ line_text l =
 abbrev pub trace_text : List Line → List ℕ
 trace_text lines = flat_map line_text lines
 
--- The text was added to the first n bytes of `out`, and n' bytes stand then; or it did not fit.
-abbrev pub Added : Option ℕ → List ℕ → List ℕ → ℕ → List ℕ → Type 0
-Added (Some n') text out n out' = (take n' out' ≡ take n out ++ text) × (n' ≡ n + length text) × (n' ≤ length out)
-Added None text out n out' = (length out < n + length text) × (take n out' ≡ take n out)
-
 -- What writing the lines behind a text comes to: the reason why it stopped, if it did, and the text of the whole lines.
 -- At one line a bad value (7) is found before a short buffer (9).
 abbrev pub writes : ℕ → List ℕ → List Line → Option Reason × List ℕ

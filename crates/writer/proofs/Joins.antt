@@ -1,8 +1,11 @@
 -- Pieces of text, one after the other.
-use Rattle.std.proofs.Common.{◌≡◌, ℕ, ◌+◌, ◌-◌, ◌<◌, ◌≤◌, List, ◌++◌, length, take, drop, sym, ap, ◌∙◌, append_assoc, arith, length-append, length-take-le, take-take, take_at}
+use Rattle.std.proofs.Common.{◌≡◌, ℕ, ◌+◌, ◌-◌, ◌<◌, ◌≤◌, List, ◌++◌, length, take, drop, Ok, Err, Result, sym, ap, ◌∙◌, append_assoc, arith, length-append, length-take-le, take-take, take_at}
+use Rattle.std.proofs.lemmas.Bool.{false≢true}
 use Rattle.std.proofs.lemmas.List.{drop-drop}
+use Rattle.std.specs.Result.{IsErr}
 use Rattle.writer.specs.declared.page.Page.{Page}
-use Rattle.writer.specs.Pages.{Wrote, Stopped}
+use Rattle.writer.specs.declared.page.Full.{Full}
+use Rattle.writer.specs.Pages.{Wrote, Stopped, Writes}
 
 -- what lies behind the end of two pieces
 rest_on : (xs ys zs : List ℕ) (n n' : ℕ) → n ≤ n' → drop n' zs ≡ drop n' ys → drop n ys ≡ drop n xs → drop n' zs ≡ drop n' xs
@@ -39,5 +42,11 @@ first_stopped {a = a} b f = record {
   same_reference = f.same_reference;
 }
 
-pub refused : {a : List ℕ} {p p' : Page} → length p.bytes.now < p.count + length a → p' ≡ p → Stopped a p p'
-refused h e = record { lacks = h; front = cc; room = cc; same_reference = cc }
+-- the same of a text that may not fit
+pub then_on : {r : Result (Unit {0}) Full} {a b : List ℕ} {p p' p'' : Page} → Wrote a p p' → Writes r b p' p'' → Writes r (a ++ b) p p''
+then_on {r = Ok u} f g = record { whole = wrote_both f g.whole; short = tt }
+then_on {r = Err e} f g = record { whole = tt; short = second_stopped f g.short }
+
+pub stops : {r : Result (Unit {0}) Full} {a : List ℕ} {p p' : Page} → IsErr r → Stopped a p p' → Writes r a p p'
+stops {r = Ok u} h f = absurd (false≢true h)
+stops {r = Err e} h f = record { whole = tt; short = f }

@@ -1,5 +1,5 @@
 -- What a writer has written: the first bytes of a page. The bytes behind them are free.
-use Rattle.std.specs.Prelude.{◌≡◌, ℕ, ◌+◌, ◌<◌, List, ◌++◌, length, take, drop, Ok, Err, Result}
+use Rattle.std.specs.Prelude.{◌≡◌, ℕ, ◌+◌, ◌<◌, List, ◌++◌, length, take, drop, Ok, Err, Result, OnOk, OnErr}
 use Rattle.writer.specs.declared.page.Page.{Page}
 use Rattle.writer.specs.declared.page.Full.{Full}
 
@@ -24,6 +24,6 @@ Puts (Ok u) text p p' = Wrote text p p'
 Puts (Err e) text p p' = (length p.bytes.now < p.count + length text) × (p' ≡ p)
 
 -- The text was put in several pieces, up to the first that did not fit.
-abbrev pub Writes : Result (Unit {0}) Full → List ℕ → Page → Page → Type 0
-Writes (Ok u) text p p' = Wrote text p p'
-Writes (Err e) text p p' = Stopped text p p'
+pub record Writes (r : Result (Unit {0}) Full) (text : List ℕ) (p p' : Page) : Type 0 where
+  pub whole : OnOk r (Wrote text p p')
+  pub short : OnErr r (Stopped text p p')
