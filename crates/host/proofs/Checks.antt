@@ -67,20 +67,3 @@ no_argument l e =
 pub sound_is : (r : Option Call) (l : Line) → call_line r l.status ≡ line_if l → is_some r ≡ sound l
 sound_is None l e = sym (failed (sound l) l e)
 sound_is (Some c) l e = sym (passed (sound l) (line c l.status) l e).0
-
--- parts that are equal or not
-pub decided : (r : Bool) (a b : ShortText) → Decides r (a ≡ b) → r ≡ same_row a b
-decided true a b d = sym ((bytes_eq-Decides a.bytes b.bytes).1 (ap (λ (x : ShortText). x.bytes) (d.0 refl)))
-decided false a b d = go (bytes_eq a.bytes b.bytes) refl
-  where
-    go : (t : Bool) → bytes_eq a.bytes b.bytes ≡ t → false ≡ same_row a b
-    go true e = absurd (true≢false (sym (d.1 (λ i. record { bytes = (bytes_eq-Decides a.bytes b.bytes).0 e i }))))
-    go false e = sym e
-
-pub stops : (a x : Bool) → false ≡ a → false ≡ (a && x)
-stops true x e = absurd (true≢false (sym e))
-stops false x e = refl
-
-pub goes : (a x r : Bool) → true ≡ a → r ≡ x → r ≡ (a && x)
-goes true x r e h = h
-goes false x r e h = absurd (true≢false e)

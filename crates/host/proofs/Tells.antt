@@ -1,7 +1,10 @@
 -- Parts that are equal make equal lines.
-use Rattle.std.proofs.Common.{◌≡◌, ℕ, true, cond, eqb, sym, refl, ap, ◌∙◌}
+use Rattle.std.proofs.Common.{◌≡◌, ℕ, true, cond, eqb, sym, refl, ap, ◌∙◌, rules}
+use denote.Enum.Bare.{sameb, same_true, true_same}
 use Rattle.std.proofs.lemmas.Slice.Eq.{bytes_eq-Decides}
+use Rattle.std.proofs.Math.Bool.{and-true}
 use Rattle.std.proofs.lemmas.Bool.{true≢false, and_parts, and_from, eqb-true, eq-eqb}
+use Rattle.std.proofs.lemmas.Bool.Decides.{same_from_decides}
 use Rattle.base.specs.declared.texts.ShortText.{ShortText}
 use Rattle.host.specs.declared.calls.Script.{Script}
 use Rattle.host.specs.declared.calls.Script.TheVariants.{Preinst, Postinst, Prerm, Postrm}
@@ -10,9 +13,14 @@ use Rattle.host.specs.declared.calls.Action.TheVariants.{Install, Upgrade, Confi
 use Rattle.host.specs.declared.line.ArgumentRow.{ArgumentRow}
 use Rattle.host.specs.declared.line.ArgumentRow.TheVariants.{Version, Null, Nothing}
 use Rattle.host.specs.declared.line.Line.{Line}
+use Rattle.host.specs.declared.calls.Call.{Call}
+use Rattle.host.specs.contracts.calls.Script.{the_type as script_type}
+use Rattle.host.specs.contracts.calls.Action.{the_type as action_type}
+use Rattle.host.specs.contracts.line.ArgumentRowPartialEq.TheImpl as arguments
+use Rattle.host.specs.contracts.line.LinePartialEq.TheImpl as lines
 use Rattle.host.specs.Calls.{script_number, action_number}
 use Rattle.host.specs.Hosts.{line}
-use Rattle.host.specs.Rows.{same_row, same_argument, same_call, TellsItsCall}
+use Rattle.host.specs.Rows.{same_row, same_argument, same_call, tells, TellsItsCall}
 
 row_same : (a b : ShortText) → same_row a b ≡ true → a ≡ b
 row_same a b e = λ i. record { bytes = (bytes_eq-Decides a.bytes b.bytes).0 e i }
@@ -93,3 +101,30 @@ call_self l =
 
 pub tells_its_call : TellsItsCall
 tells_its_call l c = (λ h. call_same l (line c l.status) h refl, λ e. sym (ap (λ (k : Line). same_call l k) e) ∙ call_self l)
+
+-- `==` of lines compares the same parts
+script_test : (a b : Script) → sameb script_type a b ≡ eqb (script_number a) (script_number b)
+script_test a b =
+    same_from_decides _ _ (same_true script_type (search rules) a b, true_same script_type a b)
+    (script_same a b, λ e. eq-eqb (script_number a) (script_number b) (ap script_number e))
+
+action_test : (a b : Action) → sameb action_type a b ≡ eqb (action_number a) (action_number b)
+action_test a b =
+    same_from_decides _ _ (same_true action_type (search rules) a b, true_same action_type a b)
+    (action_same a b, λ e. eq-eqb (action_number a) (action_number b) (ap action_number e))
+
+argument_test : (a b : ArgumentRow) → arguments.ghosts.eq a b ≡ same_argument a b
+argument_test (Version a) (Version b) = refl
+argument_test (Version a) Null = refl
+argument_test (Version a) Nothing = refl
+argument_test Null (Version b) = refl
+argument_test Null Null = refl
+argument_test Null Nothing = refl
+argument_test Nothing (Version b) = refl
+argument_test Nothing Null = refl
+argument_test Nothing Nothing = refl
+
+pub line_test : (l : Line) (c : Call) → lines.ghosts.eq l (line c l.status) ≡ tells l c
+line_test l c =
+    let k = line c l.status in
+    rw (script_test l.script k.script, action_test l.action k.action, argument_test l.argument k.argument, eq-eqb l.status l.status refl, and-true) refl

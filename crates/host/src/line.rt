@@ -5,7 +5,7 @@ use base::ShortText;
 pub type Status = u8;
 
 // An argument as plain data.
-#[derive(Clone, Copy)]
+#[derive(Clone, Copy, PartialEq, Eq, Debug)]
 pub enum ArgumentRow {
     Version(ShortText),
     Null,
@@ -13,7 +13,7 @@ pub enum ArgumentRow {
 }
 
 // A line of the trace: a call that was run and its status, as plain data.
-#[derive(Clone, Copy)]
+#[derive(Clone, Copy, PartialEq, Eq, Debug)]
 pub struct Line {
     pub name: ShortText,
     pub version: ShortText,
