@@ -8,9 +8,8 @@ use Rattle.base.specs.declared.texts.ShortText.{ShortText}
 use Rattle.base.specs.declared.name.Name.{Name}
 use Rattle.base.specs.declared.version.Version.{Version}
 use Rattle.host.specs.declared.calls.Argument.{Argument}
-use Rattle.host.specs.declared.calls.Argument.TheVariants.{Version as with_version}
+use Rattle.host.specs.declared.calls.Argument.TheVariants.{Version as version_of}
 use Rattle.host.specs.declared.calls.Call.{Call}
-use Rattle.host.specs.declared.line.ArgumentRow.TheVariants.{Version as version_of}
 use Rattle.host.specs.declared.line.Line.{Line}
 use Rattle.host.specs.Hosts.{argument_row, line, call_line}
 use Rattle.host.specs.Rows.{sound, sound_argument, argument_if, argument_rows, line_if, same_row}
@@ -32,7 +31,7 @@ pub lost : {A : Type 0} (b : Bool) (y : A) → b ≡ false → None ≡ cond b (
 lost true y h = let z : ◌≡◌ {A = ℕ} 0 1 = cc in absurd (omega arith)
 lost false y h = refl
 
-pub argument_some : (v : Version) (row : ShortText) → Some v.row ≡ cond (version_row row.bytes) (Some row) None → argument_rows (Some (with_version v)) ≡ argument_if (version_of row)
+pub argument_some : (v : Version) (row : ShortText) → Some v.row ≡ cond (version_row row.bytes) (Some row) None → argument_rows (Some (version_of v)) ≡ argument_if (version_of row)
 argument_some v row e =
     let p = passed (version_row row.bytes) v.row row e in
     kept (version_row row.bytes) (version_of v.row) (version_of row) p.0 (ap (λ (x : ShortText). version_of x) p.1)
@@ -40,7 +39,7 @@ argument_some v row e =
 pub argument_none : (row : ShortText) → None ≡ cond (version_row row.bytes) (Some row) None → None ≡ argument_if (version_of row)
 argument_none row e = lost (version_row row.bytes) (version_of row) (failed (version_row row.bytes) row e)
 
-pub call_some : (n : Name) (v : Version) (a : Argument) (l : Line) → Some n.row ≡ cond (name_row l.name.bytes) (Some l.name) None
+pub call_some : (n : Name) (v : Version) (a : Argument Version) (l : Line) → Some n.row ≡ cond (name_row l.name.bytes) (Some l.name) None
     → Some v.row ≡ cond (version_row l.version.bytes) (Some l.version) None → Some (argument_row a) ≡ argument_if l.argument
     → call_line (Some (record { name = n; version = v; script = l.script; action = l.action; argument = a })) l.status ≡ line_if l
 call_some n v a l e f g =

@@ -1,5 +1,5 @@
 -- Parts that are equal make equal lines.
-use Rattle.std.proofs.Common.{◌≡◌, ℕ, true, cond, eqb, sym, refl, ap, ◌∙◌, rules}
+use Rattle.std.proofs.Common.{◌≡◌, ℕ, Bool, true, false, cond, ◌&&◌, eqb, sym, refl, ap, ◌∙◌, rules}
 use denote.Enum.Bare.{sameb, same_true, true_same}
 use Rattle.std.proofs.lemmas.Slice.Eq.{bytes_eq-Decides}
 use Rattle.std.proofs.Math.Bool.{and-true}
@@ -10,16 +10,15 @@ use Rattle.host.specs.declared.calls.Script.{Script}
 use Rattle.host.specs.declared.calls.Script.TheVariants.{Preinst, Postinst, Prerm, Postrm}
 use Rattle.host.specs.declared.calls.Action.{Action}
 use Rattle.host.specs.declared.calls.Action.TheVariants.{Install, Upgrade, Configure, Remove, Purge, AbortInstall, AbortUpgrade, AbortRemove, FailedUpgrade}
-use Rattle.host.specs.declared.line.ArgumentRow.{ArgumentRow}
-use Rattle.host.specs.declared.line.ArgumentRow.TheVariants.{Version, Null, Nothing}
+use Rattle.host.specs.declared.calls.Argument.{Argument}
+use Rattle.host.specs.declared.calls.Argument.TheVariants.{Version, Null, Nothing}
 use Rattle.host.specs.declared.line.Line.{Line}
 use Rattle.host.specs.declared.calls.Call.{Call}
 use Rattle.host.specs.contracts.calls.Script.{the_type as script_type}
 use Rattle.host.specs.contracts.calls.Action.{the_type as action_type}
-use Rattle.host.specs.contracts.line.ArgumentRowPartialEq.TheImpl as arguments
 use Rattle.host.specs.contracts.line.LinePartialEq.TheImpl as lines
 use Rattle.host.specs.Calls.{script_number, action_number}
-use Rattle.host.specs.Hosts.{line}
+use Rattle.host.specs.Hosts.{argument_row, line}
 use Rattle.host.specs.Rows.{same_row, same_argument, same_call, tells, TellsItsCall}
 
 row_same : (a b : ShortText) → same_row a b ≡ true → a ≡ b
@@ -28,7 +27,7 @@ row_same a b e = λ i. record { bytes = (bytes_eq-Decides a.bytes b.bytes).0 e i
 row_self : (a : ShortText) → same_row a a ≡ true
 row_self a = (bytes_eq-Decides a.bytes a.bytes).1 refl
 
-argument_same : (a b : ArgumentRow) → same_argument a b ≡ true → a ≡ b
+argument_same : (a b : Argument ShortText) → same_argument a b ≡ true → a ≡ b
 argument_same (Version a) (Version b) e = ap (λ (x : ShortText). Version x) (row_same a b e)
 argument_same (Version a) Null e = absurd (true≢false (sym e))
 argument_same (Version a) Nothing e = absurd (true≢false (sym e))
@@ -39,7 +38,7 @@ argument_same Nothing (Version b) e = absurd (true≢false (sym e))
 argument_same Nothing Null e = absurd (true≢false (sym e))
 argument_same Nothing Nothing e = refl
 
-argument_self : (a : ArgumentRow) → same_argument a a ≡ true
+argument_self : (a : Argument ShortText) → same_argument a a ≡ true
 argument_self (Version a) = row_self a
 argument_self Null = refl
 argument_self Nothing = refl
@@ -113,18 +112,20 @@ action_test a b =
     same_from_decides _ _ (same_true action_type (search rules) a b, true_same action_type a b)
     (action_same a b, λ e. eq-eqb (action_number a) (action_number b) (ap action_number e))
 
-argument_test : (a b : ArgumentRow) → arguments.ghosts.eq a b ≡ same_argument a b
-argument_test (Version a) (Version b) = refl
-argument_test (Version a) Null = refl
-argument_test (Version a) Nothing = refl
-argument_test Null (Version b) = refl
-argument_test Null Null = refl
-argument_test Null Nothing = refl
-argument_test Nothing (Version b) = refl
-argument_test Nothing Null = refl
-argument_test Nothing Nothing = refl
+test_parts : (l k : Line) (p q r : Bool) → (p && (q && (sameb script_type l.script k.script && (sameb action_type l.action k.action && (r && eqb l.status l.status)))))
+    ≡ (p && (q && (eqb (script_number l.script) (script_number k.script) && (eqb (action_number l.action) (action_number k.action) && r))))
+test_parts l k p q r = rw (script_test l.script k.script, action_test l.action k.action, eq-eqb l.status l.status refl, and-true r) refl
+
+line_test_at : (l k : Line) (a b : Argument ShortText) → lines.ghosts.eq (record l { argument = a }) (record k { argument = b; status = l.status }) ≡ same_call (record l { argument = a }) (record k { argument = b })
+line_test_at l k (Version a) (Version b) = test_parts l k _ _ (same_row a b)
+line_test_at l k (Version a) Null = test_parts l k _ _ false
+line_test_at l k (Version a) Nothing = test_parts l k _ _ false
+line_test_at l k Null (Version b) = test_parts l k _ _ false
+line_test_at l k Null Null = test_parts l k _ _ true
+line_test_at l k Null Nothing = test_parts l k _ _ false
+line_test_at l k Nothing (Version b) = test_parts l k _ _ false
+line_test_at l k Nothing Null = test_parts l k _ _ false
+line_test_at l k Nothing Nothing = test_parts l k _ _ true
 
 pub line_test : (l : Line) (c : Call) → lines.ghosts.eq l (line c l.status) ≡ tells l c
-line_test l c =
-    let k = line c l.status in
-    rw (script_test l.script k.script, action_test l.action k.action, argument_test l.argument k.argument, eq-eqb l.status l.status refl, and-true) refl
+line_test l c = line_test_at l (line c l.status) l.argument (argument_row c.argument)

@@ -1,10 +1,10 @@
 -- What a script host is, what a run of a call does, and the trace line that it leaves.
 use Rattle.std.specs.Prelude.{◌≡◌, ℕ, ◌+◌, ◌%◌, ◌^◌, ◌≤◌, Bool, List, [], ◌∷◌, Some, None, Option, ◌==◌}
+use Rattle.base.specs.declared.texts.ShortText.{ShortText}
+use Rattle.base.specs.declared.version.Version.{Version}
 use Rattle.host.specs.declared.calls.Argument.{Argument}
-use Rattle.host.specs.declared.calls.Argument.TheVariants.{Version, Null, Nothing}
+use Rattle.host.specs.declared.calls.Argument.TheVariants.{Version as version_of, Null, Nothing}
 use Rattle.host.specs.declared.calls.Call.{Call}
-use Rattle.host.specs.declared.line.ArgumentRow.{ArgumentRow}
-use Rattle.host.specs.declared.line.ArgumentRow.TheVariants.{Version as version_row, Null as null_row, Nothing as nothing_row}
 use Rattle.host.specs.declared.line.Line.{Line}
 use Rattle.host.specs.declared.trace.Trace.{Trace}
 use Rattle.host.specs.Traces.{OneMore, space}
@@ -25,10 +25,11 @@ pub record Ran (m : Meaning) (c : Call) (s : ℕ) (m' : Meaning) : Type 0 where
   pub now_latest : m'.latest ≡ Some c
   pub one_more : m'.count ≡ (m.count + 1) % 2 ^ 64
 
-abbrev pub argument_row : Argument → ArgumentRow
-argument_row (Version v) = version_row v.row
-argument_row Null = null_row
-argument_row Nothing = nothing_row
+-- the same argument with its version as a plain row
+abbrev pub argument_row : Argument Version → Argument ShortText
+argument_row (version_of v) = version_of v.row
+argument_row Null = Null
+argument_row Nothing = Nothing
 
 -- the line that tells of the call c and its status s
 abbrev pub line : Call → ℕ → Line

@@ -6,8 +6,9 @@ use Rattle.base.specs.Refusals.{text_refusal}
 use Rattle.base.specs.declared.reasons.Reason.{Reason}
 use Rattle.base.specs.declared.reasons.Reason.TheVariants.{WrongValue, BufferShort}
 use Rattle.base.specs.declared.reasons.Refusal.{Refusal}
-use Rattle.host.specs.declared.line.ArgumentRow.{ArgumentRow}
-use Rattle.host.specs.declared.line.ArgumentRow.TheVariants.{Version, Null, Nothing}
+use Rattle.base.specs.declared.texts.ShortText.{ShortText}
+use Rattle.host.specs.declared.calls.Argument.{Argument}
+use Rattle.host.specs.declared.calls.Argument.TheVariants.{Version, Null, Nothing}
 use Rattle.host.specs.declared.line.Line.{Line}
 use Rattle.host.specs.Calls.{script_number, action_number}
 use Rattle.host.specs.Rows.{sound}
@@ -16,7 +17,7 @@ use Rattle.host.specs.Rows.{sound}
 abbrev pub word : List ℕ → List ℕ
 word text = text ++ (32 ∷ [])
 
-abbrev pub argument_text : ArgumentRow → List ℕ
+abbrev pub argument_text : Argument ShortText → List ℕ
 argument_text (Version row) = spelt row.bytes
 argument_text Null = codes "null"
 argument_text Nothing = codes "-"

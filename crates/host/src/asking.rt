@@ -5,8 +5,9 @@ use crate::calls::{Argument, Call};
 use crate::hosts::Host;
 use crate::line::{ArgumentRow, Line, Status};
 use crate::trace::Trace;
+use base::Version;
 
-impl Argument {
+impl Argument<Version> {
     // The argument as plain data.
     pub fn row(&self) -> ArgumentRow
         ensures { result ≡ argument_row self.now }

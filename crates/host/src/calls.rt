@@ -23,11 +23,11 @@ pub enum Action {
     FailedUpgrade = 9,
 }
 
-// What stands behind the action.
-#[derive(Clone, Copy)]
-pub enum Argument {
+// What stands behind the action, with a `Version` in it or its plain row.
+#[derive(Clone, Copy, PartialEq, Eq, Debug)]
+pub enum Argument<V> {
     // another version of the package
-    Version(Version),
+    Version(V),
     // an argument that is there and empty: there was never a version
     Null,
     // no argument
@@ -42,5 +42,5 @@ pub struct Call {
     pub version: Version,
     pub script: Script,
     pub action: Action,
-    pub argument: Argument,
+    pub argument: Argument<Version>,
 }

@@ -9,7 +9,7 @@ use base::{Name, ShortText, Version};
 
 impl ArgumentRow {
     // The argument in a plain row; nothing exactly where its version is not allowed.
-    fn argument(&self) -> Option<Argument>
+    fn argument(&self) -> Option<Argument<Version>>
         ensures { argument_rows result ≡ argument_if self.now }
     {
         match self {
