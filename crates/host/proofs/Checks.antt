@@ -1,8 +1,6 @@
 -- Rows that tell of a call.
-use Rattle.std.proofs.Common.{◌≡◌, ℕ, Bool, true, false, cond, ◌&&◌, is_some, Some, None, Decides, Option, sym, refl, ap, arith}
-use Rattle.std.specs.Str.{bytes_eq}
-use Rattle.std.proofs.lemmas.Slice.Eq.{bytes_eq-Decides}
-use Rattle.std.proofs.lemmas.Bool.{true≢false, and_from, and_left, and_right}
+use Rattle.std.proofs.Common.{◌≡◌, Bool, true, false, cond, ◌&&◌, is_some, Some, None, Option, sym, refl, ap}
+use Rattle.std.proofs.lemmas.Bool.{and_from, and_left, and_right}
 use Rattle.base.specs.Texts.{name_row, version_row}
 use Rattle.base.specs.declared.texts.ShortText.{ShortText}
 use Rattle.base.specs.declared.name.Name.{Name}
@@ -12,23 +10,23 @@ use Rattle.host.specs.declared.calls.Argument.TheVariants.{Version as version_of
 use Rattle.host.specs.declared.calls.Call.{Call}
 use Rattle.host.specs.declared.line.Line.{Line}
 use Rattle.host.specs.Hosts.{argument_row, line, call_line}
-use Rattle.host.specs.Rows.{sound, sound_argument, argument_if, argument_rows, line_if, same_row}
+use Rattle.host.specs.Rows.{sound, sound_argument, argument_if, argument_rows, line_if}
 
 -- a value that passed its test, and one that did not
 pub passed : {A : Type 0} (b : Bool) (x y : A) → Some x ≡ cond b (Some y) None → (b ≡ true) × (x ≡ y)
 passed true x y e = (refl, cc)
-passed false x y e = let z : ◌≡◌ {A = ℕ} 0 1 = cc in absurd (omega arith)
+passed false x y e = cc
 
 pub failed : {A : Type 0} (b : Bool) (y : A) → None ≡ cond b (Some y) None → b ≡ false
-failed true y e = let z : ◌≡◌ {A = ℕ} 0 1 = cc in absurd (omega arith)
+failed true y e = cc
 failed false y e = refl
 
 pub kept : {A : Type 0} (b : Bool) (x y : A) → b ≡ true → x ≡ y → Some x ≡ cond b (Some y) None
 kept {A = A} true x y h e = ap (λ (a : A). Some a) e
-kept false x y h e = let z : ◌≡◌ {A = ℕ} 0 1 = cc in absurd (omega arith)
+kept false x y h e = cc
 
 pub lost : {A : Type 0} (b : Bool) (y : A) → b ≡ false → None ≡ cond b (Some y) None
-lost true y h = let z : ◌≡◌ {A = ℕ} 0 1 = cc in absurd (omega arith)
+lost true y h = cc
 lost false y h = refl
 
 pub argument_some : (v : Version) (row : ShortText) → Some v.row ≡ cond (version_row row.bytes) (Some row) None → argument_rows (Some (version_of v)) ≡ argument_if (version_of row)

@@ -1,12 +1,12 @@
 -- The lines of a trace, one after the other.
 use Rattle.std.proofs.Common.{◌≡◌, ℕ, suc, ◌+◌, ◌<◌, ◌≤◌, Bool, true, false, cond, leb, List, [], ◌∷◌, ◌++◌, length, get_or, take, drop, Some, None, Option, Result, sym, refl, ap, ◌∙◌, subst, append_assoc, append-nil, arith, length-append, length-take-le}
-use Rattle.std.proofs.lemmas.List.{length-take, at_drop_more, at_drop_all}
-use Rattle.std.proofs.lemmas.Bool.{true≢false, le-leb, lt-leb}
+use Rattle.std.proofs.lemmas.List.{at_drop_more, at_drop_all}
+use Rattle.std.proofs.lemmas.Bool.{lt-leb}
 use Rattle.base.specs.declared.reasons.Reason.{Reason}
 use Rattle.base.specs.declared.reasons.Reason.TheVariants.{WrongValue, BufferShort}
 use Rattle.base.specs.declared.reasons.Refusal.{Refusal}
 use Rattle.writer.specs.declared.page.Page.{Page}
-use Rattle.writer.specs.Pages.{Wrote, Stopped}
+use Rattle.writer.specs.Pages.{Stopped}
 use Rattle.host.specs.declared.line.Line.{Line}
 use Rattle.host.specs.Rows.{sound}
 use Rattle.host.specs.Lines.{line_text, trace_text, writes, answer, Whole, Written}
@@ -52,9 +52,6 @@ pub ends : (lines : List Line) (room n : ℕ) (bytes out : List ℕ) (o : Option
 ends lines room n bytes out o r same q h e = subst (Written r lines room) (sym same) (ended lines room n bytes o r q h e)
 
 -- one turn at the line l
-written_on : (room : ℕ) (text : List ℕ) (l : Line) (ls : List Line) → sound l ≡ true → length (text ++ line_text l) ≤ room → writes room text (l ∷ ls) ≡ writes room (text ++ line_text l) ls
-written_on room text l ls s h = rw (s, le-leb (length (text ++ line_text l)) room h) refl
-
 written_bad : (room : ℕ) (text : List ℕ) (l : Line) (ls : List Line) → sound l ≡ false → writes room text (l ∷ ls) ≡ (Some WrongValue, text)
 written_bad room text l ls s = rw s refl
 
@@ -69,18 +66,6 @@ pub record Goes (room : ℕ) (page first : Page) (i : ℕ) (lines : List Line) :
 
 at_line : (room : ℕ) (text : List ℕ) (i : ℕ) (lines : List Line) (d : Line) → i < length lines → writes room text (drop i lines) ≡ writes room text (get_or lines i d ∷ drop (i + 1) lines)
 at_line room text i lines d h = at_drop_more (writes room text) lines i d h
-
-pub goes_on : (room : ℕ) (page page' first : Page) (i : ℕ) (lines : List Line) (d : Line) → i < length lines → sound (get_or lines i d) ≡ true
-    → Goes room page first i lines → Wrote (line_text (get_or lines i d)) page page' → Goes room page' first (i + 1) lines
-goes_on room page page' first i lines d h s g w =
-    let l = get_or lines i d in
-    let text = take page.count page.bytes.now in
-    let fit : length (text ++ line_text l) ≤ room = omega (arith, page'.fits, length-append text (line_text l), length-take-le page.count page.bytes.now page.fits, w.count, w.room, g.room_kept) in
-    record {
-      left = ap (λ (x : List ℕ). writes room x (drop (i + 1) lines)) w.front ∙ sym (written_on room text l (drop (i + 1) lines) s fit) ∙ sym (at_line room text i lines d h) ∙ g.left;
-      room_kept = w.room ∙ g.room_kept;
-      same_reference = w.same_reference ∙ g.same_reference;
-    }
 
 pub goes_bad : (room : ℕ) (page first : Page) (i : ℕ) (lines : List Line) (d : Line) → i < length lines → sound (get_or lines i d) ≡ false
     → Goes room page first i lines → (Some WrongValue, take page.count page.bytes.now) ≡ writes room [] lines

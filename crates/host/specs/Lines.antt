@@ -1,5 +1,5 @@
 -- The trace written out: a line for each call that was run.
-use Rattle.std.specs.Prelude.{◌≡◌, ℕ, ◌+◌, ◌<◌, ◌≤◌, cond, List, [], ◌∷◌, ◌++◌, length, take, Some, None, Ok, Err, codes, decimal, Option, Result, nat_le}
+use Rattle.std.specs.Prelude.{◌≡◌, ℕ, ◌<◌, cond, List, [], ◌∷◌, ◌++◌, length, take, Some, None, Ok, Err, codes, decimal, Option, Result, nat_le}
 use Rattle.std.specs.List.{flat_map}
 use Rattle.base.specs.Texts.{spelt}
 use Rattle.base.specs.Refusals.{text_refusal}

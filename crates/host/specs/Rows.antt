@@ -36,14 +36,9 @@ same_row a b = bytes_eq a.bytes b.bytes
 
 abbrev pub same_argument : Argument ShortText → Argument ShortText → Bool
 same_argument (version_of a) (version_of b) = same_row a b
-same_argument (version_of a) Null = false
-same_argument (version_of a) Nothing = false
-same_argument Null (version_of b) = false
 same_argument Null Null = true
-same_argument Null Nothing = false
-same_argument Nothing (version_of b) = false
-same_argument Nothing Null = false
 same_argument Nothing Nothing = true
+same_argument _ _ = false
 
 -- Both lines tell of one call: all five parts are equal.
 abbrev pub same_call : Line → Line → Bool

@@ -1,4 +1,4 @@
-use Rattle.std.proofs.Common.{length, Some, None, sym, refl, rules}
+use Rattle.std.proofs.Common.{Some, None, sym, rules}
 use Rattle.base.specs.declared.reasons.Reason.TheVariants.{WrongValue, BufferShort}
 use Rattle.host.proofs.Lines.{ends, goes_bad, goes_short, goes_out}
 use Rattle.host.proofs.writing.write_trace.Goals as goal
