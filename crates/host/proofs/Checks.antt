@@ -60,6 +60,8 @@ pub no_argument : (l : Line) → None ≡ argument_if l.argument → None ≡ li
 no_argument l e =
     lost (sound l) l (and_right (name_row l.name.bytes) _ (and_right (version_row l.version.bytes) (sound_argument l.argument) (failed (sound_argument l.argument) l.argument e)))
 
+pub ruleset calls = (call_some, no_name, no_version, no_argument)
+
 -- the check of a line is whether its call was made
 pub sound_is : (r : Option Call) (l : Line) → call_line r l.status ≡ line_if l → is_some r ≡ sound l
 sound_is None l e = sym (failed (sound l) l e)

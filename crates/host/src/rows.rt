@@ -25,6 +25,7 @@ impl ArgumentRow {
 
 impl Line {
     // The call that the line tells of; nothing exactly where its name or a version is not allowed.
+    #[tactic(auto, using(crate::proofs::Checks::calls))]
     pub fn call(&self) -> Option<Call>
         ensures { call_line result self.now.status ≡ line_if self.now }
     {
@@ -41,6 +42,7 @@ impl Line {
     }
 
     // Whether a call can have left this line.
+    #[tactic(auto, using(crate::proofs::Checks::sound_is))]
     pub(crate) fn is_sound(&self) -> bool
         ensures { result ≡ sound self.now }
     {
