@@ -1,6 +1,6 @@
 use crate::samples::sample_calls;
 use base::{Refusal, ShortText};
-use host::{Host, Line, ask, write_trace};
+use host::{Host, Line, Trace, ask, write_trace};
 use hosts::{AnswerList, Rule, RuleTable, Rules, Transcript};
 use std::test::Fail;
 
@@ -94,14 +94,15 @@ fn no_run_without_room(rt: HostRuntime) -> Result<(), Fail> {
     let call = calls.upgrade;
     let other = calls.configure;
     let mut host = AnswerList::new(&[3, 0, 5]);
-    let mut trace = [Line::new(other, 99); 2];
-    let mut used = 0;
-    assert_eq!(rt; ask(&mut host, &mut trace, &mut used, call), Some(3));
-    assert_eq!(rt; ask(&mut host, &mut trace, &mut used, other), Some(0));
-    assert_eq!(rt; ask(&mut host, &mut trace, &mut used, call), None);
-    assert_eq!(rt; used, 2);
+    let mut rows = [Line::new(other, 99); 2];
+    let mut trace = Trace::new(&mut rows);
+    assert_eq!(rt; ask(&mut host, &mut trace, call), Some(3));
+    assert_eq!(rt; ask(&mut host, &mut trace, other), Some(0));
+    assert_eq!(rt; ask(&mut host, &mut trace, call), None);
     assert_eq!(rt; host.count(), 2);
-    assert!(rt; trace[0].tells(call) && trace[1].tells(other));
+    let lines = trace.lines();
+    assert_eq!(rt; lines.len(), 2);
+    assert!(rt; lines[0].tells(call) && lines[1].tells(other));
     Ok(())
 }
 
