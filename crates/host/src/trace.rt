@@ -4,6 +4,7 @@ use crate::line::Line;
 use writer::Full;
 
 // Lent memory whose first `used` lines tell of the calls that were run. The rows behind them are free.
+// It takes one line at a time, where a `Page` takes texts of any length, so the two share no more than their shape.
 #[derive(Drop)]
 pub struct Trace<'a> {
     pub(crate) lines: &'a mut [Line],

@@ -2,6 +2,7 @@ use crate::tallied::Tallied;
 use host::{Line, Status};
 
 // Calls of this script and this action get this status. Number 0 stands for every script, or every action.
+// The numbers stay bytes: any byte is allowed as input, and one that names nothing matches nothing.
 #[derive(Clone, Copy)]
 pub struct Rule {
     pub script: u8,
