@@ -1,8 +1,15 @@
 ghost use Rattle.std.specs.Prelude.{◌≡◌};
-ghost use Rattle.hosts.specs.Meanings.{fresh, counted};
+ghost use Rattle.hosts.specs.Tallies.{fresh, counted};
 
-use crate::tables::Tally;
 use host::Call;
+
+// What every host remembers of its runs.
+#[derive(Clone, Copy)]
+pub struct Tally {
+    pub(crate) latest: Option<Call>,
+    // modulo 2^64
+    pub(crate) count: u64,
+}
 
 impl Tally {
     pub(crate) fn new() -> Tally
