@@ -3,8 +3,8 @@ use Rattle.std.proofs.Common.{◌≡◌, Bool, true, false, cond, ◌&&◌, is_s
 use Rattle.std.proofs.lemmas.Bool.{and_from, and_left, and_right}
 use Rattle.base.specs.Texts.{name_row, version_row}
 use Rattle.base.specs.declared.texts.ShortText.{ShortText}
-use Rattle.base.specs.declared.name.Name.{Name}
-use Rattle.base.specs.declared.version.Version.{Version}
+use Rattle.base.specs.Named.{Name}
+use Rattle.base.specs.Named.{Version}
 use Rattle.host.specs.declared.calls.Argument.{Argument}
 use Rattle.host.specs.declared.calls.Argument.TheVariants.{Version as version_of}
 use Rattle.host.specs.declared.calls.Call.{Call}

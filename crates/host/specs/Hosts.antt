@@ -1,7 +1,7 @@
 -- What a script host is, what a run of a call does, and the trace line that it leaves.
 use Rattle.std.specs.Prelude.{◌≡◌, ℕ, ◌+◌, ◌%◌, ◌^◌, ◌≤◌, Bool, List, [], ◌∷◌, Some, None, Option, ◌==◌}
 use Rattle.base.specs.declared.texts.ShortText.{ShortText}
-use Rattle.base.specs.declared.version.Version.{Version}
+use Rattle.base.specs.Named.{Version}
 use Rattle.host.specs.declared.calls.Argument.{Argument}
 use Rattle.host.specs.declared.calls.Argument.TheVariants.{Version as version_of, Null, Nothing}
 use Rattle.host.specs.declared.calls.Call.{Call}

@@ -3,7 +3,7 @@ use Rattle.std.specs.Prelude.{◌≡◌, Bool, true, false, cond, ◌&&◌, Some
 use Rattle.std.specs.Str.{bytes_eq}
 use Rattle.base.specs.Texts.{name_row, version_row}
 use Rattle.base.specs.declared.texts.ShortText.{ShortText}
-use Rattle.base.specs.declared.version.Version.{Version}
+use Rattle.base.specs.Named.{Version}
 use Rattle.host.specs.declared.calls.Argument.{Argument}
 use Rattle.host.specs.declared.calls.Call.{Call}
 use Rattle.host.specs.declared.calls.Argument.TheVariants.{Version as version_of, Null, Nothing}
