@@ -1,8 +1,8 @@
-ghost use Rattle.std.specs.Prelude.{◌≡◌, ◌≤◌, length};
+ghost use Rattle.std.specs.Prelude.{◌≡◌};
 ghost use Rattle.table.specs.Answers.{room};
 ghost use Rattle.books.specs.Limits.{records_most, owners_most};
 
-use host::Line;
+use host::Trace;
 use status::{Owned, Record};
 use table::Table;
 
@@ -12,10 +12,7 @@ use table::Table;
 pub struct Books<'a> {
     pub(crate) records: Table<'a, Record>,
     pub(crate) owners: Table<'a, Owned>,
-    pub(crate) trace: &'a mut [Line],
-    // how many lines of the trace are written
-    pub(crate) used: usize,
-    ghost fits: { used ≤ length trace.now },
+    pub(crate) trace: Trace<'a>,
     ghost places: { room records ≡ records_most },
     ghost paths: { room owners ≡ owners_most },
 }
