@@ -5,7 +5,7 @@ ghost use Rattle.block_store.specs.Chained.{Kept, Sound, chain_files, files_in, 
 ghost use Rattle.block_store.specs.Taking.{Whole, Damaged, Untouched};
 ghost use Rattle.block_store.specs.Walks.{chain_count};
 
-use crate::calls::FREE;
+use crate::calls::{FREE, WIDTH};
 use crate::cells::{Block, Chain};
 use crate::chains::Chains;
 use crate::taking::{chain_free, look_through};
@@ -25,9 +25,7 @@ pub struct BlockStore<'a> {
 }
 
 impl<'a> Store for BlockStore<'a> {
-    const BLOCK: usize = 4;
-
-    ghost block = { 4 };
+    ghost BLOCK = { 4 };
 
     ghost units = { λ s. units_in s.chains };
 
@@ -42,7 +40,7 @@ impl<'a> Store for BlockStore<'a> {
     fn block_len() -> usize
         ensures { result ≡ 4 }
     {
-        Self::BLOCK
+        WIDTH
     }
 
     fn put(&mut self, key: usize, words: &[u32]) -> bool {
@@ -55,10 +53,6 @@ impl<'a> Store for BlockStore<'a> {
 
     fn clear(&mut self, key: usize) {
         self.chains.clear(key)
-    }
-
-    fn held(&self, key: usize) -> bool {
-        self.chains.length(key).is_some()
     }
 
     fn length(&self, key: usize) -> Option<usize> {
