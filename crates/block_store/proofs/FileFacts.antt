@@ -1,12 +1,14 @@
 -- The files of the chains, what they cost, and their parts.
-use Rattle.std.proofs.Common.{◌≡◌, ℕ, zero, suc, ◌+◌, ◌-◌, ◌*◌, ◌<◌, ◌≤◌, min, List, [], ◌∷◌, ◌++◌, map, length, get_or, take, drop, set, Some, None, sum_by, sym, refl, ap, ◌∙◌, subst, inl, inr, arith}
+use Rattle.std.proofs.Common.{◌≡◌, ℕ, zero, suc, ◌+◌, ◌-◌, ◌*◌, ◌<◌, ◌≤◌, min, ltb, List, [], ◌∷◌, ◌++◌, map, length, get_or, take, drop, set, true, Option, is_some, Some, None, sum_by, sym, refl, ap, ◌∙◌, subst, inl, inr, arith}
 use Rattle.std.proofs.lemmas.List.{get_or-set_same, get_or-set_other, get_or_past, get_or-map, get_or-take, length-set, length-map, length-take, length-append, set_past, take_all, take-take, take-append-drop, take-append-le, drop_all, drop_at, drop-drop, drop-take, ext_get_or}
 use Rattle.std.proofs.lemmas.List.Sums.{sum_by-cons, sum_by_more}
-use Rattle.std.proofs.lemmas.Bool.{cases_eq, cases_lt, cond-true, cond-false, lt-ltb, le-ltb}
+use Rattle.std.proofs.lemmas.Bool.{cases_eq, cases_lt, both_ways, cond-true, cond-false, lt-ltb, le-ltb}
+use Rattle.std.specs.Bool.{then_some}
+use Rattle.std.specs.Option.{MatchOption}
 use Rattle.store.specs.Files.{File, Files, key_count, cost, file_at, units_of, used, length_of, words_of}
 use Rattle.store.proofs.Facts.{used_set, part_none}
 use Rattle.block_store.specs.Walks.{chain_count, walk, content}
-use Rattle.block_store.specs.Chained.{none, next_in, words_in, chain_at, first_in, blocks_in, chain_content, chain_file, chain_files, Linked, Full, Kept}
+use Rattle.block_store.specs.Chained.{none, next_in, words_in, chain_at, first_in, blocks_in, chain_content, chain_file, chain_files, Linked, Full, AllFull, Kept}
 use Rattle.block_store.specs.declared.cells.Block.{Block}
 use Rattle.block_store.specs.declared.cells.Chain.{Chain}
 
@@ -44,6 +46,27 @@ module _ (dir : List Chain) (bs : List Block) (linked : Linked dir bs) where
 
   pub clear_past : (k : ℕ) → key_count ≤ k → chain_files dir bs ≡ set (chain_files dir bs) k None
   clear_past k h = sym (set_past (chain_files dir bs) k None (omega (arith, files_long)))
+
+  pub held_low : (k : ℕ) → is_some (file_at (chain_files dir bs) k) ≡ true → k < key_count
+  held_low k h = elim (cases_lt k key_count) [ inl l ↦ l | inr l ↦ absurd (both_ways _ (ap is_some (file_past k l)) h) ]
+
+  -- the chain of a key, where it has blocks
+  abbrev kept_chain : Chain → Option Chain
+  kept_chain e = then_some (ltb 0 e.blocks) e
+
+  pub chain_found : (k : ℕ) (e : Chain) → k < key_count → chain_at dir k ≡ e → MatchOption (kept_chain e) (file_at (chain_files dir bs) k ≡ None) (λ x. (k < key_count) × (chain_at dir k ≡ x) × (0 < x.blocks))
+  chain_found k e kl is =
+      elim (cases_lt 0 e.blocks) [
+        | inl h ↦ rw (lt-ltb 0 e.blocks h) (kl, is, h)
+        | inr h ↦ rw (le-ltb 0 e.blocks h) (file_none k kl (omega (arith, ap count is)))
+      ]
+
+  pub chain_held : (k : ℕ) (e : Chain) → k < key_count → chain_at dir k ≡ e → is_some (kept_chain e) ≡ is_some (file_at (chain_files dir bs) k)
+  chain_held k e kl is =
+      elim (cases_lt 0 e.blocks) [
+        | inl h ↦ rw (lt-ltb 0 e.blocks h) (sym (ap is_some (file_some k kl (omega (arith, ap count is, h)))))
+        | inr h ↦ rw (le-ltb 0 e.blocks h) (sym (ap is_some (file_none k kl (omega (arith, ap count is)))))
+      ]
 
 -- one chain changes, and what the others hold stays
 module _ (dir dir' : List Chain) (bs bs' : List Block) (k : ℕ) (kept : Kept dir bs) (linked : Linked dir' bs') (kl : k < key_count)
@@ -150,9 +173,6 @@ module _ (dir : List Chain) (bs : List Block) (kept : Kept dir bs) where
   pub put_units : (k : ℕ) (ws : List ℕ) → k < key_count → used 4 (set (chain_files dir bs) k (Some ws)) + blocks_in dir k + blocks_in dir key_count ≡ length bs + cost 4 (length ws)
   put_units k ws kl = omega (arith, used_set 4 (chain_files dir bs) k (Some ws) (omega (arith, files_long dir bs kept.0)), units_at k kl, used_blocks)
 
-  pub clear_used : (k : ℕ) → k < key_count → used 4 (set (chain_files dir bs) k None) + blocks_in dir k + blocks_in dir key_count ≡ length bs
-  clear_used k kl = omega (arith, used_set 4 (chain_files dir bs) k None (omega (arith, files_long dir bs kept.0)), units_at k kl, used_blocks)
-
   pub file_length : (k : ℕ) → k < key_count → 0 < blocks_in dir k → Some (chain_at dir k).len ≡ length_of (file_at (chain_files dir bs) k)
   file_length k kl h =
       sym (ap length_of (file_some dir bs kept.0 k kl h) ∙ ap Some (length_file bs kept.0.2 (chain_at dir k) (kept.1 k kl) (ranged k (omega arith)) h))
@@ -183,10 +203,6 @@ empty_file bs e h = cond-false _ (Some (take e.len (chain_content bs e))) None (
 pub whole_file : (bs : List Block) (e : Chain) (ws : List ℕ) → 0 < e.blocks → take e.len (chain_content bs e) ≡ ws → chain_file bs e ≡ Some ws
 whole_file bs e ws some h = cond-true _ _ None (lt-ltb 0 _ some) ∙ ap Some h
 
--- the free blocks after a clear
-pub clear_free : (dir dir' : List Chain) (bs bs' : List Block) (k : ℕ) → Kept dir bs → Kept dir' bs' → k < key_count → chain_files dir' bs' ≡ set (chain_files dir bs) k None → length bs' ≡ length bs → blocks_in dir' key_count ≡ blocks_in dir key_count + blocks_in dir k
-clear_free dir dir' bs bs' k kept kept' kl e l = omega (arith, ap (used 4) e, clear_used dir bs kept k kl, used_blocks dir' bs' kept')
-
 -- a file in parts of four words
 take_append : (n : ℕ) (p q : List ℕ) → take n (p ++ q) ≡ take n p ++ take (n - length p) q
 take_append zero [] q = refl
@@ -212,3 +228,7 @@ part_more ws part C q r e l h t =
     ∙ ap (λ (m : ℕ). take 4 (drop q ws) ++ take m C) m
     ∙ ap (λ ys. take 4 (drop q ws) ++ ys) (t ∙ ap (λ (m : ℕ). drop m ws) e ∙ sym (drop-drop 4 q ws))
     ∙ take-append-drop 4 (drop q ws)
+
+-- what the ghost fields of a store say
+pub store_facts : (dir : List Chain) (bs : List Block) → Kept dir bs → AllFull dir × (length (chain_files dir bs) ≡ key_count) × (used 4 (chain_files dir bs) ≤ length bs)
+store_facts dir bs kept = (kept.1, files_long dir bs kept.0, omega (arith, used_blocks dir bs kept))
