@@ -93,11 +93,10 @@ fn link_all(blocks: &mut [Block])
     ensures next { (p : ℕ) → p < length blocks.new → next_in blocks.new p ≡ p + 1 }
     ensures wide { (p : ℕ) → p < length blocks.new → length (words_in blocks.new p) ≡ 4 }
 {
-    for i in 0..blocks.len() {
-        blocks[i] = Block {
+    for (i, block) in blocks.iter_mut().enumerate() {
+        *block = Block {
             next: i + 1,
-            seen: false,
-            words: [0; WIDTH],
+            ..Block::BLANK
         };
     }
 }

@@ -12,8 +12,8 @@ fn unmark(blocks: &mut [Block])
     ensures seen { (q : ℕ) → seen_in blocks.new q ≡ false }
     ensures same { Untouched blocks.new blocks.old }
 {
-    for i in 0..blocks.len() {
-        blocks[i].seen = false;
+    for block in blocks.iter_mut() {
+        block.seen = false;
     }
 }
 
@@ -98,23 +98,17 @@ pub(crate) fn chain_free(blocks: &mut [Block]) -> Chain
     ensures free { Unmarked blocks.old blocks.new result.first result.blocks }
     ensures count { result.blocks ≡ count_by unseen blocks.old }
 {
-    let mut first = 0;
-    let mut count = 0;
-    for p in 0..blocks.len() {
-        if blocks[p].seen {
+    let mut free = Chain::EMPTY;
+    for (p, block) in blocks.iter_mut().enumerate() {
+        if block.seen {
             continue;
         }
-        blocks[p] = Block {
-            next: first,
-            seen: false,
-            words: [0; 4],
+        *block = Block {
+            next: free.first,
+            ..Block::BLANK
         };
-        first = p;
-        count += 1;
+        free.first = p;
+        free.blocks += 1;
     }
-    Chain {
-        first,
-        blocks: count,
-        len: 0,
-    }
+    free
 }

@@ -1,5 +1,6 @@
 use Rattle.std.proofs.Common.{count_by, refl, ap, ◌∙◌, arith}
-use Rattle.std.proofs.lemmas.List.{take_all}
+use Rattle.std.proofs.lemmas.List.{set-get_or, take_all}
+use Rattle.block_store.specs.Chained.{blank}
 use Rattle.block_store.specs.Taking.{unseen}
 use Rattle.block_store.proofs.Marks.{chain_none, chain_skip, chain_more}
 use Rattle.block_store.proofs.taking.chain_free.Goals as goal
@@ -7,13 +8,14 @@ use Rattle.block_store.proofs.taking.chain_free.Goals as goal
 pub loop-p-init : goal.loop-p-init
 loop-p-init c = chain_none c.args.blocks.now _
 
-pub loop-p-preserved-then-blocks-p : goal.loop-p-preserved-then-blocks-p
-loop-p-preserved-then-blocks-p c =
-    chain_skip c.args.blocks.now c.loop-p.blocks c.loop-p.p c.loop-p.first c.loop-p.count c.loop-p.auto.blocks c.loop-p-test.true c.loop-p.invariant c.if-blocks-p.true
+pub loop-p-preserved-then-block : goal.loop-p-preserved-then-block
+loop-p-preserved-then-block c =
+    rw (set-get_or c.loop-p.blocks c.loop-p.p blank)
+    (chain_skip c.args.blocks.now c.loop-p.blocks c.loop-p.p c.loop-p.free.first c.loop-p.free.blocks c.loop-p.auto.blocks c.loop-p-test.true c.loop-p.invariant c.if-block.true)
 
 pub loop-p-preserved : goal.loop-p-preserved
 loop-p-preserved c =
-    chain_more c.args.blocks.now c.loop-p.blocks c.loop-p.p c.loop-p.first c.loop-p.count c.loop-p.auto.blocks c.loop-p-test.true c.loop-p.invariant _ c.if-blocks-p.false refl refl
+    chain_more c.args.blocks.now c.loop-p.blocks c.loop-p.p c.loop-p.free.first c.loop-p.free.blocks c.loop-p.auto.blocks c.loop-p-test.true c.loop-p.invariant _ c.if-block.false refl refl
 
 pub returns : goal.returns
 returns c = record {
