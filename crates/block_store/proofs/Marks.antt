@@ -50,7 +50,7 @@ module _ (bs now : List Block) (i p b : ℕ) (blk : Block) (long : length now �
   abbrev new : List Block
   new = set now b blk
 
-  pub mark_same : Untouched new bs
+  mark_same : Untouched new bs
   mark_same = (λ q. next_kept now b blk next q ∙ same.0 q, λ q. words_kept now b blk words q ∙ same.1 q)
 
   -- b is none of the blocks before
@@ -67,7 +67,7 @@ module _ (bs now : List Block) (i p b : ℕ) (blk : Block) (long : length now �
   below : (P : ℕ → Type 0) → ((j : ℕ) → j < i → P j) → P i → (j : ℕ) → j < i + 1 → P j
   below P h t j l = elim (cases_eq j i) [ inl q ↦ subst P (sym q) t | inr a ↦ h j (omega arith) ]
 
-  pub more_fresh : Fresh bs (i + 1) p
+  more_fresh : Fresh bs (i + 1) p
   more_fresh = (
     below (λ (j : ℕ). (walk (next_in bs) j p < length bs) × (seen_in bs (walk (next_in bs) j p) ≡ false)) fresh.0
         (subst (λ (x : ℕ). (x < length bs) × (seen_in bs x ≡ false)) here (omega arith, was_off)),
@@ -87,7 +87,7 @@ module _ (bs now : List Block) (i p b : ℕ) (blk : Block) (long : length now �
   seen_stays : (q : ℕ) → seen_in now q ≡ true → seen_in new q ≡ true
   seen_stays q h = elim (cases_eq q b) [ inl e ↦ absurd (both_ways (seen_in now b) off (sym (ap (seen_in now) e) ∙ h)) | inr a ↦ seen_other now b blk q a ∙ h ]
 
-  pub more_marked : Marked bs new (i + 1) p
+  more_marked : Marked bs new (i + 1) p
   more_marked = (
     below (λ (j : ℕ). seen_in new (walk (next_in bs) j p) ≡ true) (λ j l. seen_stays _ (marked.0 j l)) (ap (seen_in new) (sym here) ∙ seen_here now b blk low ∙ on),
     (λ q h. seen_stays q (marked.1 q h)),
@@ -100,9 +100,14 @@ module _ (bs now : List Block) (i p b : ℕ) (blk : Block) (long : length now �
     below (λ (j : ℕ). length (words_in bs (walk (next_in bs) j p)) ≡ 4) marked.4 (ap (λ (x : ℕ). length (words_in bs x)) (sym here) ∙ ap length (sym (mark_same.1 b)) ∙ wide),
   )
 
-  -- where the next one is
-  pub more_here : (r : ℕ) → r ≡ next_in new b → r ≡ walk (next_in bs) (i + 1) p
-  more_here r e = e ∙ mark_same.0 b ∙ ap (next_in bs) here ∙ sym (ap (λ (x : ℕ). walk (next_in bs) x p) (add-one i) ∙ walk_more (next_in bs) i p)
+  -- and where the next one is
+  pub one_more : (r : ℕ) → r ≡ next_in new b → (r ≡ walk (next_in bs) (i + 1) p) × Untouched new bs × Fresh bs (i + 1) p × Marked bs new (i + 1) p
+  one_more r e = (
+    e ∙ mark_same.0 b ∙ ap (next_in bs) here ∙ sym (ap (λ (x : ℕ). walk (next_in bs) x p) (add-one i) ∙ walk_more (next_in bs) i p),
+    mark_same,
+    more_fresh,
+    more_marked,
+  )
 
 -- a chain that is not fresh
 module _ (bs now : List Block) (i c p b : ℕ) (il : i < c) (here : b ≡ walk (next_in bs) i p) (long : length now ≡ length bs) (marked : Marked bs now i p) where

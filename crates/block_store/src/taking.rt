@@ -22,13 +22,7 @@ fn full(chain: Chain) -> bool
     ensures yes { result ≡ true → Full chain }
     ensures no { result ≡ false → Full chain → ⊥ }
 {
-    if chain.blocks == 0 {
-        return true;
-    }
-    if chain.len > LONGEST {
-        return false;
-    }
-    chain.blocks == blocks_for(chain.len)
+    chain.blocks == 0 || chain.len <= LONGEST && chain.blocks == blocks_for(chain.len)
 }
 
 fn all_words(blocks: &[Block], block: usize) -> &[u32]
@@ -58,11 +52,8 @@ fn mark(blocks: &mut [Block], chain: Chain) -> bool
     ensures marks { result ≡ true → Marked blocks.old blocks.new chain.blocks chain.first }
 {
     let mut block = chain.first;
-    for i in 0..chain.blocks {
-        if block >= blocks.len() {
-            return false;
-        }
-        if blocks[block].seen {
+    for _ in 0..chain.blocks {
+        if block >= blocks.len() || blocks[block].seen {
             return false;
         }
         blocks[block].seen = true;
@@ -79,12 +70,11 @@ pub(crate) fn look_through(dir: &[Chain], blocks: &mut [Block]) -> Option<usize>
     ensures same { Untouched blocks.new blocks.old }
 {
     unmark(blocks);
-    for k in 0..KEYS {
-        let chain = dir[k];
-        if !full(chain) {
+    for (k, chain) in dir[..KEYS].iter().enumerate() {
+        if !full(*chain) {
             return Some(k);
         }
-        if !mark(blocks, chain) {
+        if !mark(blocks, *chain) {
             return Some(k);
         }
     }
