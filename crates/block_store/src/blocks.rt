@@ -102,8 +102,7 @@ fn link_all(blocks: &mut [Block])
 }
 
 // No key has a chain, and all blocks are free.
-fn empty(dir: &mut [Chain], blocks: &mut [Block])
-    requires { length dir.old ≡ chain_count }
+fn empty(dir: &mut [Chain; CHAINS], blocks: &mut [Block])
     ensures kept { Kept dir.new blocks.new }
     ensures files { chain_files dir.new blocks.new ≡ replicate key_count None }
 {
@@ -117,8 +116,7 @@ fn empty(dir: &mut [Chain], blocks: &mut [Block])
 }
 
 // Chains the free blocks of a whole image; a damaged one is emptied first.
-fn settle(dir: &mut [Chain], blocks: &mut [Block])
-    requires { length dir.old ≡ chain_count }
+fn settle(dir: &mut [Chain; CHAINS], blocks: &mut [Block])
     ensures kept { Kept dir.new blocks.new }
     ensures whole { Whole dir.old blocks.old → chain_files dir.new blocks.new ≡ chain_files dir.old blocks.old }
     ensures damaged { (k : ℕ) → Damaged dir.old blocks.old k → chain_files dir.new blocks.new ≡ replicate key_count None }

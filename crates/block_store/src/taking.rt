@@ -1,10 +1,10 @@
 ghost use Rattle.std.specs.Prelude.{◌≡◌, ℕ, ◌<◌, true, false, length, IfNone, count_by, MatchOption};
 ghost use Rattle.store.specs.Files.{key_count};
-ghost use Rattle.block_store.specs.Walks.{chain_count};
 ghost use Rattle.block_store.specs.Chained.{next_in, words_in, Full};
 ghost use Rattle.block_store.specs.Taking.{Whole, Damaged, seen_in, unseen, Fresh, Marked, Untouched, Marks, Unmarked};
 
-use crate::calls::{WIDTH, blocks_for, front};
+use crate::blocks::CHAINS;
+use crate::calls::blocks_for;
 use crate::cells::{Block, Chain};
 use store::keys::{KEYS, LONGEST};
 
@@ -63,8 +63,7 @@ fn mark(blocks: &mut [Block], chain: Chain) -> bool
 }
 
 // The first key whose chain is damaged. Chains and files stay as they are, and the marks tell the blocks that no file has.
-pub(crate) fn look_through(dir: &[Chain], blocks: &mut [Block]) -> Option<usize>
-    requires { length dir.now ≡ chain_count }
+pub(crate) fn look_through(dir: &[Chain; CHAINS], blocks: &mut [Block]) -> Option<usize>
     ensures found { MatchOption result (Whole dir.now blocks.old) (Damaged dir.now blocks.old) }
     ensures marks { IfNone result (Marks dir.now blocks.new key_count) }
     ensures same { Untouched blocks.new blocks.old }
