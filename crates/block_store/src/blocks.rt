@@ -7,8 +7,8 @@ ghost use Rattle.block_store.specs.Chained.{AllFull, Kept, chain_files, next_in,
 ghost use Rattle.block_store.specs.Lent.{files_in, units_in};
 ghost use Rattle.block_store.specs.Taking.{Whole, Damaged, Untouched};
 
-use crate::calls::{FREE, WIDTH, blocks_for, front};
-use crate::cells::{Block, Chain};
+use crate::calls::{FREE, blocks_for, front};
+use crate::cells::{Block, Chain, WIDTH};
 use crate::chains::Chains;
 use crate::taking::{chain_free, look_through};
 use store::api::Store;
@@ -109,9 +109,8 @@ fn empty(dir: &mut [Chain; CHAINS], blocks: &mut [Block])
     dir.fill(Chain::EMPTY);
     link_all(blocks);
     dir[FREE] = Chain {
-        first: 0,
         blocks: blocks.len(),
-        len: 0,
+        ..Chain::EMPTY
     };
 }
 

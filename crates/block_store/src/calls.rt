@@ -4,12 +4,9 @@ ghost use Rattle.block_store.specs.Walks.{chain_count, walk};
 ghost use Rattle.block_store.specs.Chained.{Full, next_in, words_in};
 ghost use Rattle.block_store.specs.Lent.{files_in, chain_of, content_of, file_of, Same, units_in};
 
-use crate::cells::{Block, Chain};
+use crate::cells::{Block, Chain, WIDTH};
 use crate::chains::Chains;
 use store::keys::KEYS;
-
-// The words of a block.
-pub const WIDTH: usize = 4;
 
 // Where the chain of the free blocks stands, past those of the keys.
 pub const FREE: usize = KEYS;
@@ -24,8 +21,7 @@ pub(crate) fn blocks_for(n: usize) -> usize
 // The four words from `at` on, with zeros past the end.
 fn chunk(words: &[u32], at: usize) -> [u32; WIDTH]
     requires { at ≤ length words.now }
-    ensures long { length result ≡ 4 }
-    ensures words { take (length words.now - at) result ≡ take 4 (drop at words.now) }
+    ensures { take (length words.now - at) result ≡ take 4 (drop at words.now) }
 {
     let rest = &words[at..];
     let n = rest.len().min(WIDTH);
@@ -51,7 +47,6 @@ impl<'a> Chains<'a> {
         requires to { to < chain_count }
         requires apart { from ≢ to }
         requires some { 0 < (chain_of self.old from).blocks }
-        requires words { length words ≡ 4 }
         ensures others { (j : ℕ) → (j ≢ from) → (j ≢ to) → j < chain_count → Same self.new self.old j }
         ensures less { (chain_of self.new from).blocks + 1 ≡ (chain_of self.old from).blocks }
         ensures more { (chain_of self.new to).blocks ≡ (chain_of self.old to).blocks + 1 }
@@ -67,13 +62,13 @@ impl<'a> Chains<'a> {
         let next = blocks[source.first].next;
         blocks[source.first] = Block {
             next: target.first,
-            seen: false,
             words,
+            ..Block::BLANK
         };
         dir[from] = Chain {
             first: next,
             blocks: source.blocks - 1,
-            len: source.len,
+            ..source
         };
         dir[to] = Chain {
             first: source.first,

@@ -25,23 +25,15 @@ fn full(chain: Chain) -> bool
     chain.blocks == 0 || chain.len <= LONGEST && chain.blocks == blocks_for(chain.len)
 }
 
-fn all_words(blocks: &[Block], block: usize) -> &[u32]
-    requires { block < length blocks.now }
-    ensures words { result.now ≡ words_in blocks.now block }
-    ensures long { length result.now ≡ 4 }
-{
-    let b = &blocks[block];
-    &b.words
-}
-
 // The block that goes on. A block always has its four words.
 fn after(blocks: &[Block], block: usize) -> usize
     requires { block < length blocks.now }
     ensures next { result ≡ next_in blocks.now block }
     ensures wide { length (words_in blocks.now block) ≡ 4 }
 {
-    let _words = all_words(blocks, block);
-    blocks[block].next
+    let b = &blocks[block];
+    let _words: &[u32] = &b.words;
+    b.next
 }
 
 // Marks the blocks of a chain; false where one is not there, or has a mark already.

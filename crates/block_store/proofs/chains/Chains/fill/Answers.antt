@@ -27,7 +27,7 @@ loop-i-preserved c =
           let b = c.loop-i.invariant.others j ne jl in
           (a.0 ∙ b.0, a.1 ∙ b.1);
       blocks = omega (arith, c.shift.ensures.more, c.loop-i.invariant.blocks);
-      content = ap (take _) c.shift.ensures.content ∙ part_more ws c.chunk.result (content_of c.loop-i.self c.args.key) (4 * (c.loop-i.i - 1)) (4 * c.loop-i.i) (omega arith) c.chunk.ensures.long c.chunk.ensures.words c.loop-i.invariant.content;
+      content = ap (take _) c.shift.ensures.content ∙ part_more ws c.chunk.result (content_of c.loop-i.self c.args.key) (4 * (c.loop-i.i - 1)) (4 * c.loop-i.i) (omega arith) (omega arith) c.chunk.ensures c.loop-i.invariant.content;
       room = omega (arith, c.shift.ensures.less, c.loop-i.invariant.room);
       len = λ h. c.shift.ensures.len;
       units = c.shift.ensures.units ∙ c.loop-i.invariant.units;

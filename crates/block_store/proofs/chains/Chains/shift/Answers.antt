@@ -20,14 +20,14 @@ overflow_add-dir c = let m = c.args.self.now in omega (arith, c.requires.some, t
 pub invariant_of-self : goal.invariant_of-self
 invariant_of-self c =
     let m = c.args.self.now in
-    record { linked = shift_linked m.dir.now m.blocks.now c.args.from c.args.to c.args.words c.args.len m.linked c.requires.from c.requires.to c.requires.apart c.requires.some c.requires.words }
+    record { linked = shift_linked m.dir.now m.blocks.now c.args.from c.args.to c.args.words c.args.len m.linked c.requires.from c.requires.to c.requires.apart c.requires.some (omega arith) }
 
 pub returns-clause-others : goal.returns-clause-others
 returns-clause-others c =
     let m = c.args.self.now in
-    shift_other m.dir.now m.blocks.now c.args.from c.args.to c.args.words c.args.len m.linked c.requires.from c.requires.to c.requires.apart c.requires.some c.requires.words
+    shift_other m.dir.now m.blocks.now c.args.from c.args.to c.args.words c.args.len m.linked c.requires.from c.requires.to c.requires.apart c.requires.some (omega arith)
 
 pub returns-clause-content : goal.returns-clause-content
 returns-clause-content c =
     let m = c.args.self.now in
-    shift_content m.dir.now m.blocks.now c.args.from c.args.to c.args.words c.args.len m.linked c.requires.from c.requires.to c.requires.apart c.requires.some c.requires.words
+    shift_content m.dir.now m.blocks.now c.args.from c.args.to c.args.words c.args.len m.linked c.requires.from c.requires.to c.requires.apart c.requires.some (omega arith)
