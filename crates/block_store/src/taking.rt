@@ -1,4 +1,4 @@
-ghost use Rattle.std.specs.Prelude.{◌≡◌, ℕ, ◌<◌, true, false, length, IfNone, count_by, MatchOption};
+ghost use Rattle.std.specs.Prelude.{◌≡◌, ℕ, ◌<◌, ◌↔◌, IsTrue, true, false, length, IfNone, count_by, MatchOption};
 ghost use Rattle.store.specs.Files.{key_count};
 ghost use Rattle.block_store.specs.Chained.{next_in, words_in, Full};
 ghost use Rattle.block_store.specs.Taking.{Whole, Damaged, seen_in, unseen, Fresh, Marked, Untouched, Marks, Unmarked};
@@ -19,8 +19,7 @@ fn unmark(blocks: &mut [Block])
 
 // Whether a chain has the blocks that its words want.
 fn full(chain: Chain) -> bool
-    ensures yes { result ≡ true → Full chain }
-    ensures no { result ≡ false → Full chain → ⊥ }
+    ensures { IsTrue result ↔ Full chain }
 {
     chain.blocks == 0 || chain.len <= LONGEST && chain.blocks == blocks_for(chain.len)
 }
@@ -39,9 +38,8 @@ fn after(blocks: &[Block], block: usize) -> usize
 // Marks the blocks of a chain; false where one is not there, or has a mark already.
 fn mark(blocks: &mut [Block], chain: Chain) -> bool
     ensures same { Untouched blocks.new blocks.old }
-    ensures fresh { result ≡ true → Fresh blocks.old chain.blocks chain.first }
-    ensures stale { result ≡ false → Fresh blocks.old chain.blocks chain.first → ⊥ }
-    ensures marks { result ≡ true → Marked blocks.old blocks.new chain.blocks chain.first }
+    ensures fresh { IsTrue result ↔ Fresh blocks.old chain.blocks chain.first }
+    ensures marks { IsTrue result → Marked blocks.old blocks.new chain.blocks chain.first }
 {
     let mut block = chain.first;
     for _ in 0..chain.blocks {
