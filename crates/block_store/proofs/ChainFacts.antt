@@ -7,32 +7,41 @@ use Rattle.store.specs.Files.{File, key_count, file_at}
 use Rattle.block_store.specs.Walks.{chain_count, walk, content, Within}
 use Rattle.block_store.specs.Chained.{blank, none, next_in, words_in, chain_at, first_in, blocks_in, chain_content, chain_file, chain_files, Linked, Full, AllFull, Kept}
 use Rattle.block_store.specs.declared.cells.Block.{Block}
+use Rattle.block_store.specs.Lent.{chain_of, files_in, units_in}
 use Rattle.block_store.specs.declared.cells.Chain.{Chain}
-use Rattle.block_store.proofs.FileFacts.{files_set, files_long, file_of, empty_file}
+use Rattle.block_store.specs.declared.chains.Chains.{Chains}
+use Rattle.block_store.proofs.FileFacts.{files_set, files_long, key_file, empty_file}
 use Rattle.block_store.proofs.WalkFacts.{content_same, shift_within, shift_apart}
 
 abbrev count : Chain → ℕ
 count e = e.blocks
 
 -- two chains hold together no more blocks than there are
-pub two_le : (dir : List Chain) (bs : List Block) (f t : ℕ) → Linked dir bs → f < chain_count → t < chain_count → (f ≡ t → ⊥) → blocks_in dir f + blocks_in dir t ≤ length bs
-two_le dir bs f t linked fl tl ne =
+pub two_le : (m : Chains) (f t : ℕ) → f < chain_count → t < chain_count → (f ≡ t → ⊥) → (chain_of m f).blocks + (chain_of m t).blocks ≤ units_in m
+two_le m f t fl tl ne =
+    let dir = m.dir.now in
     omega (
       arith,
-      linked.1,
-      sum_by-set count dir f none none (omega (arith, linked.0)),
-      get_or-le-sum_by count (set dir f none) t none (omega (arith, linked.0, length-set dir f none)),
+      m.linked.1,
+      sum_by-set count dir f none none (omega (arith, m.linked.0)),
+      get_or-le-sum_by count (set dir f none) t none (omega (arith, m.linked.0, length-set dir f none)),
       ap count (get_or-set_other dir f t none none (λ e. ne (sym e))),
     )
 
-pub first_inside : (dir : List Chain) (bs : List Block) (f : ℕ) → Linked dir bs → f < chain_count → 0 < blocks_in dir f → first_in dir f < length bs
-first_inside dir bs f linked fl some = linked.3 f 0 fl some
-
 -- the first block of f becomes the first of t
 module _
-    (dir : List Chain) (bs : List Block) (f t : ℕ) (ws : List ℕ) (len : ℕ)
-    (linked : Linked dir bs) (fl : f < chain_count) (tl : t < chain_count) (ne : f ≡ t → ⊥) (some : 0 < blocks_in dir f) (four : length ws ≡ 4)
+    (m : Chains) (f t : ℕ) (ws : List ℕ) (len : ℕ)
+    (fl : f < chain_count) (tl : t < chain_count) (ne : f ≡ t → ⊥) (some : 0 < (chain_of m f).blocks) (four : length ws ≡ 4)
   where
+    abbrev dir : List Chain
+    dir = m.dir.now
+
+    abbrev bs : List Block
+    bs = m.blocks.now
+
+    abbrev linked : Linked dir bs
+    linked = m.linked
+
     abbrev blk : Block
     blk = record { next = first_in dir t; seen = false; words = ws }
 
@@ -130,40 +139,41 @@ module _
 
 -- the chain of one key becomes that of another, which has none
 module _
-    (dir dir' : List Chain) (bs bs' : List Block) (from to : ℕ)
-    (kept : Kept dir bs) (linked : Linked dir' bs') (same : bs' ≡ bs) (fl : from < key_count) (tl : to < key_count) (gone : blocks_in dir to ≡ 0)
-    (at_from : chain_at dir' from ≡ chain_at dir to) (at_to : chain_at dir' to ≡ chain_at dir from) (at_other : (j : ℕ) → (j ≡ from → ⊥) → (j ≡ to → ⊥) → chain_at dir' j ≡ chain_at dir j)
+    (n m : Chains) (from to : ℕ) (full : AllFull n.dir.now) (same : m.blocks.now ≡ n.blocks.now) (fl : from < key_count) (tl : to < key_count) (gone : (chain_of n to).blocks ≡ 0)
+    (at_from : chain_of m from ≡ chain_of n to) (at_to : chain_of m to ≡ chain_of n from) (at_other : (j : ℕ) → (j ≡ from → ⊥) → (j ≡ to → ⊥) → chain_of m j ≡ chain_of n j)
   where
-    renamed_full : AllFull dir'
-    renamed_full j jl =
-        elim (cases_eq j from) [
-          | inl q ↦ subst (λ (x : ℕ). Full (chain_at dir' x)) (sym q) (subst (λ (e : Chain). Full e) (sym at_from) (λ h. absurd (omega arith)))
-          | inr a ↦ elim (cases_eq j to) [
-            | inl q ↦ subst (λ (x : ℕ). Full (chain_at dir' x)) (sym q) (subst (λ (e : Chain). Full e) (sym at_to) (kept.1 from fl))
-            | inr b ↦ subst (λ (e : Chain). Full e) (sym (at_other j a b)) (kept.1 j jl)
-          ]
-        ]
+    pub renamed_kept : Kept m.dir.now m.blocks.now
+    renamed_kept = (
+      m.linked,
+      λ j jl.
+          elim (cases_eq j from) [
+            | inl q ↦ subst (λ (x : ℕ). Full (chain_of m x)) (sym q) (subst Full (sym at_from) (λ h. absurd (omega arith)))
+            | inr a ↦ elim (cases_eq j to) [
+              | inl q ↦ subst (λ (x : ℕ). Full (chain_of m x)) (sym q) (subst Full (sym at_to) (full from fl))
+              | inr b ↦ subst Full (sym (at_other j a b)) (full j jl)
+            ]
+          ],
+    )
 
-    pub renamed_kept : Kept dir' bs'
-    renamed_kept = (linked, renamed_full)
+    -- the file under key j is that of a chain of n
+    file_now : (j : ℕ) (e : Chain) → j < key_count → chain_of m j ≡ e → file_at (files_in m) j ≡ chain_file n.blocks.now e
+    file_now j e jl is = key_file m.dir.now m.blocks.now m.linked j jl ∙ ap (λ bs. chain_file bs (chain_of m j)) same ∙ ap (chain_file n.blocks.now) is
 
-    abbrev linked' : Linked dir' bs
-    linked' = subst (λ x. Linked dir' x) same linked
+    file_then : (j : ℕ) → j < key_count → chain_file n.blocks.now (chain_of n j) ≡ file_at (files_in n) j
+    file_then j jl = sym (key_file n.dir.now n.blocks.now n.linked j jl)
 
-    pub renamed_files : chain_files dir' bs' ≡ set (set (chain_files dir bs) to (file_at (chain_files dir bs) from)) from None
+    pub renamed_files : files_in m ≡ set (set (files_in n) to (file_at (files_in n) from)) from None
     renamed_files =
-        let fs = chain_files dir bs in
-        ap (chain_files dir') same
-        ∙ files_set (chain_files dir' bs) (set fs to (file_at fs from)) from None (files_long dir' bs linked') (length-set fs to (file_at fs from) ∙ files_long dir bs kept.0) fl
-        (file_of dir' bs linked' from fl ∙ ap (chain_file bs) at_from ∙ empty_file bs (chain_at dir to) (omega (arith, gone)))
+        let fs = files_in n in
+        let long = files_long n.dir.now n.blocks.now n.linked in
+        files_set (files_in m) (set fs to (file_at fs from)) from None (files_long m.dir.now m.blocks.now m.linked) (length-set fs to (file_at fs from) ∙ long) fl
+        (file_now from (chain_of n to) fl at_from ∙ empty_file n.blocks.now (chain_of n to) (omega arith))
         (λ j a jl.
         elim (cases_eq j to) [
           | inl q ↦ (
-              file_of dir' bs linked' j jl ∙ ap (chain_file bs) (ap (chain_at dir') q ∙ at_to) ∙ sym (file_of dir bs kept.0 from fl)
-              ∙ sym (ap (file_at (set fs to (file_at fs from))) q ∙ get_or-set_same fs to (file_at fs from) None (omega (arith, files_long dir bs kept.0))))
-          | inr b ↦ (
-              file_of dir' bs linked' j jl ∙ ap (chain_file bs) (at_other j a b) ∙ sym (file_of dir bs kept.0 j jl)
-              ∙ sym (get_or-set_other fs to j (file_at fs from) None b))
+              ap (file_at (files_in m)) q ∙ file_now to (chain_of n from) tl at_to ∙ file_then from fl
+              ∙ sym (ap (file_at (set fs to (file_at fs from))) q ∙ get_or-set_same fs to (file_at fs from) None (omega (arith, long))))
+          | inr b ↦ file_now j (chain_of n j) jl (at_other j a b) ∙ file_then j jl ∙ sym (get_or-set_other fs to j (file_at fs from) None b)
         ])
 
 -- a new store: no chain but the free one, which is all blocks in their order
@@ -223,4 +233,4 @@ module _ (bs : List Block) (dir : List Chain) (empty : dir ≡ replicate chain_c
       ext_get_or None (chain_files ndir bs) (replicate key_count None) (files_long ndir bs new_kept.0 ∙ sym (length-replicate {A = File} key_count None))
       (λ k h.
       let kl : k < key_count = omega (arith, files_long ndir bs new_kept.0) in
-      file_of ndir bs new_kept.0 k kl ∙ ap (chain_file bs) (n_key k kl) ∙ sym (get_or-replicate key_count k None None kl))
+      key_file ndir bs new_kept.0 k kl ∙ ap (chain_file bs) (n_key k kl) ∙ sym (get_or-replicate key_count k None None kl))

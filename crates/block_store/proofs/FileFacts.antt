@@ -10,7 +10,9 @@ use Rattle.store.proofs.Facts.{used_set, part_none}
 use Rattle.block_store.specs.Walks.{chain_count, walk, content}
 use Rattle.block_store.specs.Chained.{none, next_in, words_in, chain_at, first_in, blocks_in, chain_content, chain_file, chain_files, Linked, Full, AllFull, Kept}
 use Rattle.block_store.specs.declared.cells.Block.{Block}
+use Rattle.block_store.specs.Lent.{chain_of, file_of, files_in, Same}
 use Rattle.block_store.specs.declared.cells.Chain.{Chain}
+use Rattle.block_store.specs.declared.chains.Chains.{Chains}
 
 abbrev count : Chain → ℕ
 count e = e.blocks
@@ -32,23 +34,20 @@ module _ (dir : List Chain) (bs : List Block) (linked : Linked dir bs) where
   pub files_long : length (chain_files dir bs) ≡ key_count
   files_long = length-map (take key_count dir) (chain_file bs) ∙ front_long
 
-  pub file_of : (k : ℕ) → k < key_count → file_at (chain_files dir bs) k ≡ chain_file bs (chain_at dir k)
-  file_of k kl = get_or-map (chain_file bs) (take key_count dir) k none None (omega (arith, front_long)) ∙ ap (chain_file bs) (get_or-take key_count dir k none kl)
+  pub key_file : (k : ℕ) → k < key_count → file_at (chain_files dir bs) k ≡ chain_file bs (chain_at dir k)
+  key_file k kl = get_or-map (chain_file bs) (take key_count dir) k none None (omega (arith, front_long)) ∙ ap (chain_file bs) (get_or-take key_count dir k none kl)
 
   pub file_past : (k : ℕ) → key_count ≤ k → file_at (chain_files dir bs) k ≡ None
   file_past k h = get_or_past (chain_files dir bs) k None (omega (arith, files_long))
 
   pub file_none : (k : ℕ) → k < key_count → blocks_in dir k ≤ 0 → file_at (chain_files dir bs) k ≡ None
-  file_none k kl h = file_of k kl ∙ cond-false _ (Some (take (chain_at dir k).len (chain_content bs (chain_at dir k)))) None (le-ltb 0 _ h)
+  file_none k kl h = key_file k kl ∙ cond-false _ (Some (take (chain_at dir k).len (chain_content bs (chain_at dir k)))) None (le-ltb 0 _ h)
 
   pub file_some : (k : ℕ) → k < key_count → 0 < blocks_in dir k → file_at (chain_files dir bs) k ≡ Some (take (chain_at dir k).len (chain_content bs (chain_at dir k)))
-  file_some k kl h = file_of k kl ∙ cond-true _ _ None (lt-ltb 0 _ h)
+  file_some k kl h = key_file k kl ∙ cond-true _ _ None (lt-ltb 0 _ h)
 
   pub clear_past : (k : ℕ) → key_count ≤ k → chain_files dir bs ≡ set (chain_files dir bs) k None
   clear_past k h = sym (set_past (chain_files dir bs) k None (omega (arith, files_long)))
-
-  pub held_low : (k : ℕ) → is_some (file_at (chain_files dir bs) k) ≡ true → k < key_count
-  held_low k h = elim (cases_lt k key_count) [ inl l ↦ l | inr l ↦ absurd (both_ways _ (ap is_some (file_past k l)) h) ]
 
   -- the chain of a key, where it has blocks
   abbrev kept_chain : Chain → Option Chain
@@ -67,24 +66,6 @@ module _ (dir : List Chain) (bs : List Block) (linked : Linked dir bs) where
         | inl h ↦ rw (lt-ltb 0 e.blocks h) (sym (ap is_some (file_some k kl (omega (arith, ap count is, h)))))
         | inr h ↦ rw (le-ltb 0 e.blocks h) (sym (ap is_some (file_none k kl (omega (arith, ap count is)))))
       ]
-
--- one chain changes, and what the others hold stays
-module _ (dir dir' : List Chain) (bs bs' : List Block) (k : ℕ) (kept : Kept dir bs) (linked : Linked dir' bs') (kl : k < key_count)
-    (others : (j : ℕ) → (j ≡ k → ⊥) → j < key_count → (chain_at dir' j ≡ chain_at dir j) × (chain_file bs' (chain_at dir' j) ≡ chain_file bs (chain_at dir j))) where
-  pub changed_files : (f : File) → chain_file bs' (chain_at dir' k) ≡ f → chain_files dir' bs' ≡ set (chain_files dir bs) k f
-  changed_files f e =
-      files_set (chain_files dir' bs') (chain_files dir bs) k f (files_long dir' bs' linked) (files_long dir bs kept.0) kl (file_of dir' bs' linked k kl ∙ e)
-      (λ j ne jl. file_of dir' bs' linked j jl ∙ (others j ne jl).1 ∙ sym (file_of dir bs kept.0 j jl))
-
-  pub changed_kept : Full (chain_at dir' k) → Kept dir' bs'
-  changed_kept full = (
-    linked,
-    λ j jl.
-        elim (cases_eq j k) [
-          | inl e ↦ subst (λ (x : ℕ). Full (chain_at dir' x)) (sym e) full
-          | inr ne ↦ subst Full (sym (others j ne jl).0) (kept.1 j jl)
-        ],
-  )
 
 -- blocks of four words
 module _ (bs : List Block) (wide : (p : ℕ) → p < length bs → length (words_in bs p) ≡ 4) where
@@ -168,7 +149,7 @@ module _ (dir : List Chain) (bs : List Block) (kept : Kept dir bs) where
       omega (arith, used_from bs kept.0.2 (take key_count dir) in_front, sum_by_more count dir key_count none (omega (arith, kept.0.0)), ap (sum_by count) (take_all (key_count + 1) dir (omega (arith, kept.0.0))), kept.0.1)
 
   units_at : (k : ℕ) → k < key_count → units_of 4 (file_at (chain_files dir bs) k) ≡ blocks_in dir k
-  units_at k kl = ap (units_of 4) (file_of dir bs kept.0 k kl) ∙ units_chain bs kept.0.2 (chain_at dir k) (kept.1 k kl) (ranged k (omega arith))
+  units_at k kl = ap (units_of 4) (key_file dir bs kept.0 k kl) ∙ units_chain bs kept.0.2 (chain_at dir k) (kept.1 k kl) (ranged k (omega arith))
 
   pub put_units : (k : ℕ) (ws : List ℕ) → k < key_count → used 4 (set (chain_files dir bs) k (Some ws)) + blocks_in dir k + blocks_in dir key_count ≡ length bs + cost 4 (length ws)
   put_units k ws kl = omega (arith, used_set 4 (chain_files dir bs) k (Some ws) (omega (arith, files_long dir bs kept.0)), units_at k kl, used_blocks)
@@ -202,6 +183,35 @@ empty_file bs e h = cond-false _ (Some (take e.len (chain_content bs e))) None (
 
 pub whole_file : (bs : List Block) (e : Chain) (ws : List ℕ) → 0 < e.blocks → take e.len (chain_content bs e) ≡ ws → chain_file bs e ≡ Some ws
 whole_file bs e ws some h = cond-true _ _ None (lt-ltb 0 _ some) ∙ ap Some h
+
+-- a key that holds a file is one of the keys
+pub held_low : (c : Chains) (k : ℕ) → is_some (file_at (files_in c) k) ≡ true → k < key_count
+held_low c k h = elim (cases_lt k key_count) [ inl l ↦ l | inr l ↦ absurd (both_ways _ (ap is_some (file_past c.dir.now c.blocks.now c.linked k l)) h) ]
+
+-- one chain changes, and what the others hold stays
+module _ (n m : Chains) (k : ℕ) (full : AllFull n.dir.now) (kl : k < key_count) (others : (j : ℕ) → (j ≡ k → ⊥) → j < key_count → Same m n j) where
+  pub changed_files : (f : File) → file_of m k ≡ f → files_in m ≡ set (files_in n) k f
+  changed_files f e =
+      files_set (files_in m) (files_in n) k f (files_long m.dir.now m.blocks.now m.linked) (files_long n.dir.now n.blocks.now n.linked) kl (key_file m.dir.now m.blocks.now m.linked k kl ∙ e)
+      (λ j ne jl. key_file m.dir.now m.blocks.now m.linked j jl ∙ (others j ne jl).1 ∙ sym (key_file n.dir.now n.blocks.now n.linked j jl))
+
+  pub changed_kept : Full (chain_of m k) → Kept m.dir.now m.blocks.now
+  changed_kept new = (
+    m.linked,
+    λ j jl.
+        elim (cases_eq j k) [
+          | inl e ↦ subst (λ (x : ℕ). Full (chain_of m x)) (sym e) new
+          | inr ne ↦ subst Full (sym (others j ne jl).0) (full j jl)
+        ],
+  )
+
+  -- it has no blocks now
+  module _ (empty : (chain_of m k).blocks ≡ 0) where
+    pub freed_files : files_in m ≡ set (files_in n) k None
+    freed_files = changed_files None (empty_file m.blocks.now (chain_of m k) (omega arith))
+
+    pub freed_kept : Kept m.dir.now m.blocks.now
+    freed_kept = changed_kept (λ h. absurd (omega arith))
 
 -- a file in parts of four words
 take_append : (n : ℕ) (p q : List ℕ) → take n (p ++ q) ≡ take n p ++ take (n - length p) q

@@ -15,7 +15,7 @@ pub invariant_of-self : goal.invariant_of-self
 invariant_of-self c =
     let n = c.args.self.now.chains in
     let m = c.fill.new.self in
-    let f = store_facts m.dir.now m.blocks.now (changed_kept n.dir.now m.dir.now n.blocks.now m.blocks.now c.args.key (n.linked, c.args.self.now.full) m.linked (omega arith) (λ j ne jl. let a = c.fill.ensures.others j ne jl in let b = c.free.ensures.others j ne jl in (a.0 ∙ b.0, a.1 ∙ b.1)) c.fill.ensures.full) in
+    let f = store_facts m.dir.now m.blocks.now (changed_kept n m c.args.key c.args.self.now.full (omega arith) (λ j ne jl. let a = c.fill.ensures.others j ne jl in let b = c.free.ensures.others j ne jl in (a.0 ∙ b.0, a.1 ∙ b.1)) c.fill.ensures.full) in
     record { full = f.0; keys = f.1; room = f.2 }
 
 pub returns-clause-answer : goal.returns-clause-answer
@@ -28,4 +28,4 @@ pub returns-clause-files : goal.returns-clause-files
 returns-clause-files c =
     let n = c.args.self.now.chains in
     let m = c.fill.new.self in
-    changed_files n.dir.now m.dir.now n.blocks.now m.blocks.now c.args.key (n.linked, c.args.self.now.full) m.linked (omega arith) (λ j ne jl. let a = c.fill.ensures.others j ne jl in let b = c.free.ensures.others j ne jl in (a.0 ∙ b.0, a.1 ∙ b.1)) (Some c.args.words.now) c.fill.ensures.file
+    changed_files n m c.args.key c.args.self.now.full (omega arith) (λ j ne jl. let a = c.fill.ensures.others j ne jl in let b = c.free.ensures.others j ne jl in (a.0 ∙ b.0, a.1 ∙ b.1)) (Some c.args.words.now) c.fill.ensures.file

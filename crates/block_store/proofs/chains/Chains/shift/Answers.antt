@@ -15,19 +15,19 @@ pub bounds-blocks-source-2 : goal.bounds-blocks-source-2
 bounds-blocks-source-2 c = c.args.self.now.linked.3 c.args.from 0 c.requires.from c.requires.some
 
 pub overflow_add-dir : goal.overflow_add-dir
-overflow_add-dir c = let m = c.args.self.now in omega (arith, c.requires.some, two_le m.dir.now m.blocks.now c.args.from c.args.to m.linked c.requires.from c.requires.to c.requires.apart)
+overflow_add-dir c = let m = c.args.self.now in omega (arith, c.requires.some, two_le m c.args.from c.args.to c.requires.from c.requires.to c.requires.apart)
 
 pub invariant_of-self : goal.invariant_of-self
 invariant_of-self c =
     let m = c.args.self.now in
-    record { linked = shift_linked m.dir.now m.blocks.now c.args.from c.args.to c.args.words c.args.len m.linked c.requires.from c.requires.to c.requires.apart c.requires.some (omega arith) }
+    record { linked = shift_linked m c.args.from c.args.to c.args.words c.args.len c.requires.from c.requires.to c.requires.apart c.requires.some (omega arith) }
 
 pub returns-clause-others : goal.returns-clause-others
 returns-clause-others c =
     let m = c.args.self.now in
-    shift_other m.dir.now m.blocks.now c.args.from c.args.to c.args.words c.args.len m.linked c.requires.from c.requires.to c.requires.apart c.requires.some (omega arith)
+    shift_other m c.args.from c.args.to c.args.words c.args.len c.requires.from c.requires.to c.requires.apart c.requires.some (omega arith)
 
 pub returns-clause-content : goal.returns-clause-content
 returns-clause-content c =
     let m = c.args.self.now in
-    shift_content m.dir.now m.blocks.now c.args.from c.args.to c.args.words c.args.len m.linked c.requires.from c.requires.to c.requires.apart c.requires.some (omega arith)
+    shift_content m c.args.from c.args.to c.args.words c.args.len c.requires.from c.requires.to c.requires.apart c.requires.some (omega arith)
