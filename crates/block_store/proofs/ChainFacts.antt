@@ -1,7 +1,8 @@
 -- The block store's lists: two chains and one block change.
 use Rattle.std.proofs.Common.{◌≡◌, ℕ, zero, suc, ◌+◌, ◌-◌, ◌<◌, ◌≤◌, false, cond, ltb, List, ◌++◌, length, take, set, replicate, Some, None, sum_by, sym, refl, ap, ◌∙◌, subst, inl, inr, add-one, arith}
 use Rattle.std.proofs.lemmas.List.{get_or-set_same, get_or-set_other, get_or-replicate, length-replicate, length-set, ext_get_or}
-use Rattle.std.proofs.lemmas.List.Sums.{sum_by-cons, sum_by-set, get_or-le-sum_by}
+use Rattle.std.proofs.lemmas.List.Folds.{sum_by-replicate}
+use Rattle.std.proofs.lemmas.List.Sums.{sum_by-set, get_or-le-sum_by}
 use Rattle.std.proofs.lemmas.Bool.{cases_eq}
 use Rattle.store.specs.Files.{File, key_count, file_at}
 use Rattle.block_store.specs.Walks.{chain_count, walk, content, Within}
@@ -181,10 +182,6 @@ walk_line : (nx : ℕ → ℕ) (m : ℕ) → ((p : ℕ) → p < m → nx p ≡ p
 walk_line nx m h zero p l = omega arith
 walk_line nx m h (suc i) p l = ap (walk nx i) (h p (omega arith)) ∙ walk_line nx m h i (p + 1) (omega arith) ∙ omega arith
 
-sum_none : (n : ℕ) → sum_by count (replicate n none) ≡ 0
-sum_none zero = refl
-sum_none (suc n) = sum_by-cons count none (replicate n none) ∙ omega (arith, sum_none n)
-
 module _ (bs : List Block) (dir : List Chain) (empty : dir ≡ replicate chain_count none)
     (line : (p : ℕ) → p < length bs → next_in bs p ≡ p + 1) (wide : (p : ℕ) → p < length bs → length (words_in bs p) ≡ 4) where
   abbrev rest : Chain
@@ -220,7 +217,7 @@ module _ (bs : List Block) (dir : List Chain) (empty : dir ≡ replicate chain_c
   new_kept = (
     (
       length-set dir key_count rest ∙ long,
-      omega (arith, sum_by-set count dir key_count rest none (omega (arith, long)), ap (sum_by count) empty, sum_none chain_count, ap count (was_none key_count (omega arith))),
+      omega (arith, sum_by-set count dir key_count rest none (omega (arith, long)), ap (sum_by count) empty, sum_by-replicate count chain_count none, ap count (was_none key_count (omega arith))),
       wide,
       (λ k i l h. let w = n_at k i l h in omega (arith, w.1, w.2)),
       (λ j k i m jl kl hi hm e. let a = n_at j i jl hi in let b = n_at k m kl hm in (omega (arith, a.0, b.0), omega (arith, a.1, b.1, e))),

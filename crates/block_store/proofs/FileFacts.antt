@@ -46,8 +46,6 @@ module _ (dir : List Chain) (bs : List Block) (linked : Linked dir bs) where
   pub file_some : (k : ℕ) → k < key_count → 0 < blocks_in dir k → file_at (chain_files dir bs) k ≡ Some (take (chain_at dir k).len (chain_content bs (chain_at dir k)))
   file_some k kl h = key_file k kl ∙ cond-true _ _ None (lt-ltb 0 _ h)
 
-  pub clear_past : (k : ℕ) → key_count ≤ k → chain_files dir bs ≡ set (chain_files dir bs) k None
-  clear_past k h = sym (set_past (chain_files dir bs) k None (omega (arith, files_long)))
 
   -- the chain of a key, where it has blocks
   abbrev kept_chain : Chain → Option Chain
@@ -175,9 +173,6 @@ module _ (dir : List Chain) (bs : List Block) (kept : Kept dir bs) where
         | inr off ↦ part_none 4 (at * 4) _ (file_none dir bs kept.0 k kl off)
       ]
 
-  pub part_high : (k at : ℕ) → key_count ≤ k → [] ≡ take 4 (drop (at * 4) (words_of (file_at (chain_files dir bs) k)))
-  part_high k at h = part_none 4 (at * 4) _ (file_past dir bs kept.0 k h)
-
 pub empty_file : (bs : List Block) (e : Chain) → e.blocks ≤ 0 → chain_file bs e ≡ None
 empty_file bs e h = cond-false _ (Some (take e.len (chain_content bs e))) None (le-ltb 0 _ h)
 
@@ -221,13 +216,6 @@ take_append zero (x ∷ p) q = let e : 0 ≡ 0 - suc (length p) = omega arith in
 take_append (suc n) (x ∷ p) q =
     let e : n - length p ≡ suc n - suc (length p) = omega arith in
     ap (λ ys. x ∷ ys) (take_append n p q ∙ ap (λ (m : ℕ). take n p ++ take m q) e)
-
-pub take_min : (n : ℕ) (xs : List ℕ) → take n xs ≡ take (min n (length xs)) xs
-take_min n xs =
-    elim (cases_lt n (length xs)) [
-      | inl h ↦ (let e : n ≡ min n (length xs) = omega arith in ap (λ (m : ℕ). take m xs) e)
-      | inr h ↦ (let e : length xs ≡ min n (length xs) = omega arith in take_all n xs h ∙ sym (take_all (length xs) xs (omega arith)) ∙ ap (λ (m : ℕ). take m xs) e)
-    ]
 
 -- one part more in front
 pub part_more : (ws part C : List ℕ) (q r : ℕ) → r ≡ q + 4 → length part ≡ 4 → take (length ws - q) part ≡ take 4 (drop q ws) → take (length ws - r) C ≡ drop r ws → take (length ws - q) (part ++ C) ≡ drop q ws

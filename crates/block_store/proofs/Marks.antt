@@ -39,12 +39,6 @@ module _ (bs : List Block) (b : ℕ) (blk : Block) where
 abbrev lack : Block → ℕ
 lack b = cond (unseen b) 1 0
 
-pub mark_none : (bs : List Block) (p : ℕ) → Fresh bs 0 p × Marked bs bs 0 p
-mark_none bs p = (
-  ((λ i h. absurd (omega arith)), λ i m h g e. absurd (omega arith)),
-  ((λ i h. absurd (omega arith)), (λ q h. h), (λ q h. inl h), omega arith, λ i h. absurd (omega arith)),
-)
-
 module _ (bs now : List Block) (i p b : ℕ) (blk : Block) (long : length now ≡ length bs) (here : b ≡ walk (next_in bs) i p) (same : Untouched now bs) (fresh : Fresh bs i p) (marked : Marked bs now i p)
     (low : b < length now) (off : seen_in now b ≡ false) (on : blk.seen ≡ true) (next : blk.next ≡ next_in now b) (words : blk.words ≡ words_in now b) (wide : length (words_in (set now b blk) b) ≡ 4) where
   abbrev new : List Block
@@ -108,18 +102,6 @@ module _ (bs now : List Block) (i p b : ℕ) (blk : Block) (long : length now �
     more_fresh,
     more_marked,
   )
-
--- a chain that is not fresh
-module _ (bs now : List Block) (i c p b : ℕ) (il : i < c) (here : b ≡ walk (next_in bs) i p) (long : length now ≡ length bs) (marked : Marked bs now i p) where
-  pub stale_past : length now ≤ b → Fresh bs c p → ⊥
-  stale_past h fresh = let l = (fresh.0 i il).0 in omega arith
-
-  pub stale_seen : seen_in now b ≡ true → Fresh bs c p → ⊥
-  stale_seen h fresh =
-      elim (marked.2 b h) [
-        | inl s ↦ both_ways (seen_in bs b) (ap (seen_in bs) here ∙ (fresh.0 i il).1) s
-        | inr s ↦ (let e = fresh.1 s.0 i (omega (arith, s.1)) il (s.2 ∙ here) in omega (arith, s.1))
-      ]
 
 all_lack : (bs : List Block) → ((q : ℕ) → seen_in bs q ≡ false) → count_by unseen bs ≡ length bs
 all_lack [] h = refl
