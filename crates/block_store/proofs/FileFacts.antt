@@ -1,6 +1,6 @@
 -- The files of the chains, what they cost, and their parts.
 use Rattle.std.proofs.Common.{◌≡◌, ℕ, zero, suc, ◌+◌, ◌-◌, ◌*◌, ◌<◌, ◌≤◌, min, ltb, List, [], ◌∷◌, ◌++◌, map, length, get_or, take, drop, set, true, Option, is_some, Some, None, sum_by, sym, refl, ap, ◌∙◌, subst, inl, inr, arith}
-use Rattle.std.proofs.lemmas.List.{get_or-set_same, get_or-set_other, get_or_past, get_or-map, get_or-take, length-set, length-map, length-take, length-append, set_past, take_all, take-take, take-append-drop, take-append-le, drop_all, drop_at, drop-drop, drop-take, ext_get_or}
+use Rattle.std.proofs.lemmas.List.{get_or-set_same, get_or-set_other, get_or_past, get_or-map, get_or-take, length-set, length-map, length-take, length-append, take_all, take-take, take-append-drop, take-append-le, drop_all, drop_at, drop-drop, drop-take, ext_get_or}
 use Rattle.std.proofs.lemmas.List.Sums.{sum_by-cons, sum_by_more}
 use Rattle.std.proofs.lemmas.Bool.{cases_eq, cases_lt, both_ways, cond-true, cond-false, lt-ltb, le-ltb}
 use Rattle.std.specs.Bool.{then_some}
@@ -45,7 +45,6 @@ module _ (dir : List Chain) (bs : List Block) (linked : Linked dir bs) where
 
   pub file_some : (k : ℕ) → k < key_count → 0 < blocks_in dir k → file_at (chain_files dir bs) k ≡ Some (take (chain_at dir k).len (chain_content bs (chain_at dir k)))
   file_some k kl h = key_file k kl ∙ cond-true _ _ None (lt-ltb 0 _ h)
-
 
   -- the chain of a key, where it has blocks
   abbrev kept_chain : Chain → Option Chain
