@@ -1,5 +1,6 @@
 -- The block store's lists: two chains and one block change.
 use Rattle.std.proofs.Common.{◌≡◌, ℕ, zero, suc, ◌+◌, ◌-◌, ◌<◌, ◌≤◌, false, cond, ltb, List, ◌++◌, length, take, set, replicate, Some, None, sum_by, sym, ap, ◌∙◌, subst, inl, inr, add-one, arith}
+use Rattle.std.proofs.lemmas.Grind.{common_steps}
 use Rattle.std.proofs.lemmas.List.{get_or-set_same, get_or-set_other, get_or-replicate, length-replicate, length-set, ext_get_or}
 use Rattle.std.proofs.lemmas.List.Folds.{sum_by-replicate}
 use Rattle.std.proofs.lemmas.List.Sums.{sum_by-set, get_or-le-sum_by}
@@ -144,17 +145,7 @@ module _
     (at_from : chain_of m from ≡ chain_of n to) (at_to : chain_of m to ≡ chain_of n from) (at_other : (j : ℕ) → (j ≡ from → ⊥) → (j ≡ to → ⊥) → chain_of m j ≡ chain_of n j)
   where
     pub renamed_kept : Kept m.dir.now m.blocks.now
-    renamed_kept = (
-      m.linked,
-      λ j jl.
-          elim (cases_eq j from) [
-            | inl q ↦ subst (λ (x : ℕ). Full (chain_of m x)) (sym q) (subst Full (sym at_from) (λ h. absurd (omega arith)))
-            | inr a ↦ elim (cases_eq j to) [
-              | inl q ↦ subst (λ (x : ℕ). Full (chain_of m x)) (sym q) (subst Full (sym at_to) (full from fl))
-              | inr b ↦ subst Full (sym (at_other j a b)) (full j jl)
-            ]
-          ],
-    )
+    renamed_kept = (m.linked, λ j jl. grind (arith, common_steps, full j, full from, at_other j))
 
     -- the file under key j is that of a chain of n
     file_now : (j : ℕ) (e : Chain) → j < key_count → chain_of m j ≡ e → file_at (files_in m) j ≡ chain_file n.blocks.now e

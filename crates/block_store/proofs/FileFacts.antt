@@ -1,8 +1,9 @@
 -- The files of the chains, what they cost, and their parts.
 use Rattle.std.proofs.Common.{◌≡◌, ℕ, zero, suc, ◌+◌, ◌-◌, ◌*◌, ◌<◌, ◌≤◌, min, ltb, List, [], ◌∷◌, ◌++◌, map, length, get_or, take, drop, set, true, Option, is_some, Some, None, sum_by, sym, refl, ap, ◌∙◌, subst, inl, inr, arith}
-use Rattle.std.proofs.lemmas.List.{get_or-set_same, get_or-set_other, get_or_past, get_or-map, get_or-take, length-set, length-map, length-take, length-append, take_all, take-take, take-append-drop, take-append-le, drop_all, drop_at, drop-drop, drop-take, ext_get_or}
+use Rattle.std.proofs.lemmas.Grind.{common_steps}
+use Rattle.std.proofs.lemmas.List.{get_or_past, get_or-map, get_or-take, length-set, length-map, length-take, length-append, take_all, take-take, take-append-drop, take-append-le, drop_all, drop_at, drop-drop, drop-take, ext_get_or}
 use Rattle.std.proofs.lemmas.List.Sums.{sum_by-cons, sum_by_more}
-use Rattle.std.proofs.lemmas.Bool.{cases_eq, cases_lt, both_ways, cond-true, cond-false, lt-ltb, le-ltb}
+use Rattle.std.proofs.lemmas.Bool.{cases_lt, both_ways, cond-true, cond-false, lt-ltb, le-ltb}
 use Rattle.std.specs.Bool.{then_some}
 use Rattle.std.specs.Option.{MatchOption}
 use Rattle.store.specs.Files.{File, Files, key_count, cost, file_at, units_of, used, length_of, words_of}
@@ -19,13 +20,7 @@ count e = e.blocks
 
 -- a list of files that differs from another under one key
 pub files_set : (fs gs : Files) (k : ℕ) (f : File) → length fs ≡ key_count → length gs ≡ key_count → k < key_count → file_at fs k ≡ f → ((j : ℕ) → (j ≡ k → ⊥) → j < key_count → file_at fs j ≡ file_at gs j) → fs ≡ set gs k f
-files_set fs gs k f a b kl here there =
-    ext_get_or None fs (set gs k f) (a ∙ sym (length-set gs k f ∙ b))
-    (λ j jl.
-    elim (cases_eq j k) [
-      | inl e ↦ ap (file_at fs) e ∙ here ∙ sym (get_or-set_same gs k f None (omega arith)) ∙ sym (ap (file_at (set gs k f)) e)
-      | inr ne ↦ there j ne (omega arith) ∙ sym (get_or-set_other gs k j f None ne)
-    ])
+files_set fs gs k f a b kl here there = ext_get_or None fs (set gs k f) (a ∙ sym (length-set gs k f ∙ b)) (λ j jl. grind (arith, common_steps, there j))
 
 module _ (dir : List Chain) (bs : List Block) (linked : Linked dir bs) where
   front_long : length (take key_count dir) ≡ key_count
@@ -190,14 +185,7 @@ module _ (n m : Chains) (k : ℕ) (full : AllFull n.dir.now) (kl : k < key_count
       (λ j ne jl. key_file m.dir.now m.blocks.now m.linked j jl ∙ (others j ne jl).1 ∙ sym (key_file n.dir.now n.blocks.now n.linked j jl))
 
   pub changed_kept : Full (chain_of m k) → Kept m.dir.now m.blocks.now
-  changed_kept new = (
-    m.linked,
-    λ j jl.
-        elim (cases_eq j k) [
-          | inl e ↦ subst (λ (x : ℕ). Full (chain_of m x)) (sym e) new
-          | inr ne ↦ subst Full (sym (others j ne jl).0) (full j jl)
-        ],
-  )
+  changed_kept new = (m.linked, λ j jl. grind (arith, common_steps, others j, full j))
 
   -- it has no blocks now
   module _ (empty : (chain_of m k).blocks ≡ 0) where
