@@ -96,11 +96,7 @@ module _
     words_other p h = ap (λ x. x.words) (get_or-set_other bs b p blk blank h)
 
     wide : (p : ℕ) → p < length bs' → length (words_in bs' p) ≡ 4
-    wide p h =
-        elim (cases_eq p b) [
-          | inl q ↦ ap (λ (x : ℕ). length (words_in bs' x)) q ∙ ap length words_here ∙ four
-          | inr a ↦ ap length (words_other p a) ∙ linked.2 p (omega (arith, length-set bs b blk))
-        ]
+    wide p h = grind (arith, common_steps, linked.2 p)
 
     first_other : (j : ℕ) → j < chain_count → (j ≡ f → ⊥) → (j ≡ t → ⊥) → first_in dir' j ≡ first_in dir j
     first_other j jl p q = ap (λ x. x.first) (at_other j p q)
