@@ -41,6 +41,7 @@ fn put_status(page: &mut Page, status: Status) -> Result<(), Full>
     page.put(b"\n")
 }
 
+// One line; where it does not fit, what stands before it stays.
 fn put_line(page: &mut Page, line: &Line) -> Result<(), Full>
     ensures { Writes result (line_text line.now) page.old page.new }
 {
@@ -63,9 +64,7 @@ pub fn write_trace(lines: &[Line], out: &mut [u8]) -> Result<usize, Refusal>
         if !line.is_sound() {
             return Err(Refusal::in_text(Reason::WrongValue, count));
         }
-        if put_line(&mut page, line).is_err() {
-            return Err(Refusal::in_text(Reason::BufferShort, count));
-        }
+        put_line(&mut page, line).map_err(|_| Refusal::in_text(Reason::BufferShort, count))?;
     }
     Ok(page.count())
 }

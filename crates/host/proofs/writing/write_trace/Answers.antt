@@ -8,8 +8,8 @@ returns-then-not-is_sound c =
     ends c.args.lines.now _ c.loop-line.page.count c.loop-line.page.bytes.now _ (Some WrongValue) _ (search rules) (search rules) c.loop-line.page.fits
     (goes_bad _ c.loop-line.page _ c.loop-line.line-index c.args.lines.now _ (search rules) (sym c.if-not-is_sound.ensures) c.loop-line.invariant)
 
-pub returns-then-is_err : goal.returns-then-is_err
-returns-then-is_err c =
+pub returns-in_err-map_err : goal.returns-in_err-map_err
+returns-in_err-map_err c =
     ends c.args.lines.now _ c.loop-line.page.count c.put_line.new.page.bytes.now _ (Some BufferShort) _ (search rules) (search rules) (search rules)
     (goes_short _ c.loop-line.page c.put_line.new.page _ c.loop-line.line-index c.args.lines.now _ (search rules) (sym c.if-not-is_sound.ensures) c.loop-line.invariant (search rules))
 
