@@ -13,7 +13,7 @@ pub struct Trace<'a> {
 }
 
 impl<'a> Trace<'a> {
-    ghost use Rattle.std.specs.Prelude.{◌≡◌, ◌+◌, [], length};
+    ghost use Rattle.std.specs.Prelude.{◌≡◌, ◌+◌, ◌<◌, [], length, MatchOption};
     ghost use Rattle.host.specs.Traces.{lines_in, space, Adds};
 
     // No line is in use.
@@ -23,6 +23,16 @@ impl<'a> Trace<'a> {
         ensures none { lines_in result ≡ [] }
     {
         Trace { lines, used: 0 }
+    }
+
+    // The first `used` lines are in use already; nothing where there are not so many.
+    pub fn resume(lines: &'a mut [Line], used: usize) -> Option<Trace<'a>>
+        ensures { MatchOption result (length lines.old < used) (λ trace. (trace.lines.now ≡ lines.old) × (trace.used ≡ used) × (trace.lines.ghost_name ≡ lines.entry.ghost_name)) }
+    {
+        if lines.len() < used {
+            return None;
+        }
+        Some(Trace { lines, used })
     }
 
     // The lines in use, the first one first.

@@ -1,4 +1,4 @@
-ghost use Rattle.std.specs.Prelude.{◌≡◌, ◌≤◌, length};
+ghost use Rattle.std.specs.Prelude.{◌≡◌, ◌<◌, ◌≤◌, length, MatchOption};
 
 // A lent buffer whose first `count` bytes are written. The bytes behind them are free.
 #[derive(Drop)]
@@ -20,6 +20,16 @@ impl<'a> Page<'a> {
         ensures count { result.count ≡ 0 }
     {
         Page { bytes, count: 0 }
+    }
+
+    // The first `count` bytes are written already; nothing where there are not so many.
+    pub fn resume(bytes: &'a mut [u8], count: usize) -> Option<Page<'a>>
+        ensures { MatchOption result (length bytes.old < count) (λ page. (page.bytes.now ≡ bytes.old) × (page.count ≡ count) × (page.bytes.ghost_name ≡ bytes.entry.ghost_name)) }
+    {
+        if bytes.len() < count {
+            return None;
+        }
+        Some(Page { bytes, count })
     }
 
     // How many bytes are written.
