@@ -7,7 +7,8 @@ pub type Status = u8;
 // An argument as plain data.
 pub type ArgumentRow = Argument<ShortText>;
 
-// A line of the trace: a call that was run and its status, as plain data.
+// A line of the trace: a call that was run and its status, as plain data. It is flat, as it is written, and no generic of
+// `Call` with a status beside it.
 #[derive(Clone, Copy, PartialEq, Eq, Debug)]
 pub struct Line {
     pub name: ShortText,

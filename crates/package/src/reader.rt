@@ -84,7 +84,8 @@ impl<'a> Items<'a> {
         })
     }
 
-    // The head of a package and its name.
+    // The head of a package and its name. What it shares with a name alone is `named`; one function for both would read a
+    // flag twice, for the lengths and for what is due behind the name.
     fn package_name(&self) -> Result<Step<'a>, Refusal>
         ensures item { Hands self.now Stage.Package result }
         ensures same { Same self.now.words.now result }

@@ -1,4 +1,5 @@
-// What configure, remove and purge do with an owned path.
+// What configure, remove and purge do with an owned path. An enum and no closure, since the definitions of what a call
+// leaves are over it: a closure would have to bring its meaning as a clause of its own.
 #[derive(Clone, Copy, PartialEq, Eq)]
 pub enum Pass {
     // a pending conffile takes its place
@@ -9,7 +10,7 @@ pub enum Pass {
     Wipe,
 }
 
-// How files that were laid are dealt with in the end.
+// How files that were laid are dealt with in the end; an enum for the same reason.
 #[derive(Clone, Copy, PartialEq, Eq)]
 pub enum Unwind {
     // what was set aside returns

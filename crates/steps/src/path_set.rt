@@ -1,4 +1,4 @@
-// A set of paths.
+// A set of paths, in memory of its own: the core allocates nothing, so it is no set of the library.
 #[derive(Clone, Copy)]
 pub struct PathSet {
     // for each path whether it is in the set

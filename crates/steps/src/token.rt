@@ -6,7 +6,7 @@ pub struct Before {
     pub(crate) aside: usize,
 }
 
-// The same past the point: there is no way back.
+// The same past the point: there is no way back. It is a type of its own so that the compiler refuses one.
 #[must_use]
 pub struct Past {
     pub(crate) touched: usize,
