@@ -4,8 +4,6 @@ ghost use Rattle.store.specs.Files.{Files, key_count, file_at, used, admits, mov
 // A store of files under keys. What it holds, and how many units it has, is all that its calls speak of.
 pub trait Store {
     // The length of a block, in words.
-    const BLOCK: usize;
-
     ghost BLOCK: { ℕ };
 
     ghost units: { Self → ℕ };
@@ -18,6 +16,10 @@ pub trait Store {
     ghost keys: { (s : Self) → length (files s) ≡ key_count };
 
     ghost room: { (s : Self) → used BLOCK (files s) ≤ units s };
+
+    // A function, since no impl with a lifetime may yet tie a constant to the name that clauses have for it.
+    fn block_len() -> usize
+        ensures { result ≡ BLOCK };
 
     // Holds the words under the key, in the place of what was there; false where that is refused, and then nothing changes.
     fn put(&mut self, key: usize, words: &[u32]) -> bool
