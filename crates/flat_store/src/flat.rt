@@ -10,6 +10,9 @@ use crate::taking::{list_free, look_through};
 use store::api::Store;
 use store::keys::KEYS;
 
+// The words of a slot, all in one block.
+const BLOCK: usize = 32;
+
 // The flat image: each file lies in a slot of its own, which the entry of its key names.
 #[derive(Drop)]
 pub struct FlatStore<'a> {
@@ -20,9 +23,7 @@ pub struct FlatStore<'a> {
 }
 
 impl<'a> Store for FlatStore<'a> {
-    const BLOCK: usize = 32;
-
-    ghost block = { 32 };
+    ghost BLOCK = { 32 };
 
     ghost units = { λ s. units_in s.image };
 
@@ -37,7 +38,7 @@ impl<'a> Store for FlatStore<'a> {
     fn block_len() -> usize
         ensures { result ≡ 32 }
     {
-        Self::BLOCK
+        BLOCK
     }
 
     fn put(&mut self, key: usize, words: &[u32]) -> bool {
@@ -50,10 +51,6 @@ impl<'a> Store for FlatStore<'a> {
 
     fn clear(&mut self, key: usize) {
         self.image.clear(key)
-    }
-
-    fn held(&self, key: usize) -> bool {
-        self.length(key).is_some()
     }
 
     fn length(&self, key: usize) -> Option<usize> {
