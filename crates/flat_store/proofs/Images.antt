@@ -2,16 +2,16 @@
 use Rattle.std.proofs.Common.{◌≡◌, ℕ, zero, suc, ◌+◌, ◌-◌, ◌*◌, ◌<◌, ◌≤◌, Bool, true, false, cond, ltb, List, [], ◌∷◌, ◌++◌, map, length, get_or, take, drop, set, replicate, Option, is_some, Some, None, sum_by, sym, refl, ap, ◌∙◌, subst, inl, inr, arith}
 use mathlib.Core.Path.{fun_ext}
 use Rattle.std.specs.List.{swap}
-use Rattle.std.proofs.lemmas.List.{get_or-set_same, get_or-set_other, map-set, get_or-replicate, length-replicate, length-set, length-map, length-take, set-get_or, take_at, take_all, drop_all}
+use Rattle.std.proofs.lemmas.List.{get_or-set_same, get_or-set_other, map-set, set-set, get_or-replicate, length-replicate, length-set, length-map, length-take, set-get_or, take_at, take_all, drop_all}
 use Rattle.std.proofs.lemmas.List.Edits.{swap_is}
 use Rattle.std.proofs.lemmas.List.Sums.{sum_by-cons, sum_by-set, get_or-le-sum_by}
-use Rattle.std.proofs.lemmas.Bool.{cases_eq, cases_lt, lt-ltb, le-ltb, ltb-true, both_ways, false≢true}
+use Rattle.std.proofs.lemmas.Bool.{cases_eq, cases_lt, cond-true, lt-ltb, le-ltb, ltb-true, ltb-false, both_ways, false≢true}
 use Rattle.std.proofs.lemmas.Bool.Decides.{nat_tests}
-use Rattle.std.proofs.lemmas.Option.{none-some, same_Some}
-use Rattle.store.specs.Files.{Files, key_count, longest, file_at, units_of, used, moved, words_of}
-use Rattle.store.proofs.Facts.{used_set, moved_cleared}
-use Rattle.flat_store.specs.Images.{blank, entry_at, words_at, entry_file, image_files, slot_of, live, slot_at, Apart, Fits, units, Kept}
-use Rattle.flat_store.specs.Rooms.{length_file, units_file, used_slots}
+use Rattle.std.proofs.lemmas.Option.{none-some, same_Some, some_pair_parts, cond_some}
+use Rattle.store.specs.Files.{File, Files, key_count, longest, file_at, units_of, used, admits, moved, words_of}
+use Rattle.store.proofs.Facts.{used_set, admits_yes, admits_full, moved_cleared}
+use Rattle.flat_store.specs.Images.{blank, entry_at, words_at, entry_file, image_files, slot_of, live, slot_at, Apart, Fits, units, Kept, choice}
+use Rattle.flat_store.specs.Rooms.{length_file, units_file, used_slots, room_all}
 use Rattle.flat_store.specs.declared.cells.Entry.{Entry}
 use Rattle.flat_store.specs.declared.cells.Slot.{Slot}
 use Rattle.flat_store.proofs.Places.{live_key, live_free, slot_key, slot_free, renamed, unchanged}
@@ -100,7 +100,7 @@ module _ (dir : List (Option Entry)) (ss : List Slot) (free left : ℕ) (k : ℕ
   abbrev tdir : List (Option Entry)
   tdir = set dir k got
 
-  pub took_kept : Kept tdir ss left
+  took_kept : Kept tdir ss left
   took_kept = (
     length-set dir k got ∙ kept.0,
     omega (arith, kept.1, entry_sum dir k got kept.0 kl, ap units empty),
@@ -123,7 +123,7 @@ module _ (dir : List (Option Entry)) (ss : List Slot) (free left : ℕ) (k : ℕ
                 (live_free tdir ss left z h ∙ t ∙ sym (live_free dir ss free z h), slot_free tdir ss left z h ∙ sym (slot_free dir ss free z h)))
           ]
 
-  pub took_files : image_files tdir ss ≡ set (image_files dir ss) k (Some [])
+  took_files : image_files tdir ss ≡ set (image_files dir ss) k (Some [])
   took_files = map-set (entry_file ss) dir k got
 
 -- the slot of a key goes to the end of the free list
@@ -204,7 +204,7 @@ module _ (dir : List (Option Entry)) (ss : List Slot) (free : ℕ) (k p : ℕ) (
   abbrev wss : List Slot
   wss = set ss p s
 
-  pub slot_in : p < length ss
+  slot_in : p < length ss
   slot_in = subst (λ (x : ℕ). x < length ss) (slot_key dir ss free k kl ∙ at) (kept.3.0 k (live_key dir ss free k kl ∙ held))
 
   apart : (j : ℕ) → j < key_count → (j ≡ k → ⊥) → (f : Entry) → entry_at dir j ≡ Some f → f.slot ≡ p → ⊥
@@ -231,7 +231,7 @@ module _ (dir : List (Option Entry)) (ss : List Slot) (free : ℕ) (k p : ℕ) (
       go None h = refl
       go (Some f) h = ap (λ xs. Some (take f.len xs)) (words_other f.slot (apart j jl ne f h))
 
-  pub wrote_files : image_files wdir wss ≡ set (image_files dir ss) k (Some ws)
+  wrote_files : image_files wdir wss ≡ set (image_files dir ss) k (Some ws)
   wrote_files =
       map_frame (entry_file ss) (entry_file wss) dir k new None (λ j jl ne. file_other j (omega (arith, kept.0)) ne)
       ∙ ap (λ xs. set (image_files dir ss) k (Some (take (length ws) xs))) words_here
@@ -260,7 +260,7 @@ module _ (dir : List (Option Entry)) (ss : List Slot) (free : ℕ) (k p : ℕ) (
         | inr a ↦ subst (λ (x : Option Entry). Fits wss x) (sym (entry_other dir k new kept.0 kl j a)) (other_fits j jl a)
       ]
 
-  pub wrote_kept : Kept wdir wss free
+  wrote_kept : Kept wdir wss free
   wrote_kept = (
     length-set dir k new ∙ kept.0,
     omega (arith, kept.1, entry_sum dir k new kept.0 kl, one_unit (entry_at dir k) held, length-set ss p s),
@@ -270,6 +270,75 @@ module _ (dir : List (Option Entry)) (ss : List Slot) (free : ℕ) (k p : ℕ) (
         (λ z. ap (λ (b : Bool). cond (ltb z key_count) b (ltb (z - key_count) free)) (new_entry z).0)
         (λ z. ap (λ (q : ℕ). cond (ltb z key_count) q (get_or wss (z - key_count) blank).spare) (new_entry z).1 ∙ ap (λ (q : ℕ). cond (ltb z key_count) (slot_of (entry_at dir z)) q) (spare_same (z - key_count)))),
   )
+
+-- a slot that the free list names is there
+pub free_slot : (dir : List (Option Entry)) (ss : List Slot) (free i : ℕ) → Kept dir ss free → i < free → (get_or ss i blank).spare < length ss
+free_slot dir ss free i kept il =
+    let e : key_count + i - key_count ≡ i = omega arith in
+    let on = live_free dir ss free (key_count + i) (omega arith) ∙ ap (λ (x : ℕ). ltb x free) e ∙ lt-ltb i free il in
+    subst (λ (x : ℕ). x < length ss) (slot_free dir ss free (key_count + i) (omega arith) ∙ ap (λ (x : ℕ). (get_or ss x blank).spare) e) (kept.3.0 (key_count + i) on)
+
+-- no slot was chosen
+pub none_chosen : (ss : List Slot) (free : ℕ) (o : Option Entry) → None ≡ choice ss free o → (o ≡ None) × (free ≡ 0)
+none_chosen ss free (Some e) h = absurd (none-some _ h)
+none_chosen ss free None h = (refl, go (ltb 0 free) refl)
+  where
+    go : (b : Bool) → ltb 0 free ≡ b → free ≡ 0
+    go true e = absurd (none-some _ (h ∙ cond-true _ _ _ e))
+    go false e = omega (arith, ltb-false 0 free e)
+
+-- the words go to the slot that was chosen
+module _ (dir : List (Option Entry)) (ss : List Slot) (free k p left : ℕ) (kept : Kept dir ss free) (kl : k < key_count) (chosen : Some (p, left) ≡ choice ss free (entry_at dir k)) where
+  -- as if the key had held the slot before
+  abbrev Held : Type 0
+  Held =
+      (m : List (Option Entry))
+      × Kept m ss left
+      × (is_some (entry_at m k) ≡ true)
+      × (slot_of (entry_at m k) ≡ p)
+      × ((o : Option Entry) → set m k o ≡ set dir k o)
+      × ((f : File) → set (image_files m ss) k f ≡ set (image_files dir ss) k f)
+
+  had : Held
+  had = go (entry_at dir k) refl (sym chosen)
+    where
+      go : (o : Option Entry) → entry_at dir k ≡ o → choice ss free o ≡ Some (p, left) → Held
+      go (Some e) on is =
+          let q = some_pair_parts _ _ _ _ is in
+          (dir, subst (Kept dir ss) q.1 kept, ap is_some on, ap slot_of on ∙ q.0, (λ o. refl), (λ f. refl))
+      go None off is =
+          let c = cond_some _ _ _ is in
+          let l : free - 1 ≡ left = ap (λ x. x.1) c.1 in
+          let more : left + 1 ≡ free = omega (arith, ltb-true _ _ c.0) in
+          let slot : (get_or ss left blank).spare ≡ p = ap (λ (i : ℕ). (get_or ss i blank).spare) (sym l) ∙ ap (λ x. x.0) c.1 in
+          let here = entry_here dir k (got dir ss free left k kept kl off more) kept.0 kl in (
+            tdir dir ss free left k kept kl off more,
+            took_kept dir ss free left k kept kl off more,
+            ap is_some here,
+            ap slot_of here ∙ slot,
+            (λ o. set-set dir k _ o),
+            (λ f. ap (λ fs. set fs k f) (took_files dir ss free left k kept kl off more) ∙ set-set (image_files dir ss) k (Some []) f),
+          )
+
+  module _ (s : Slot) (ws : List ℕ) (spare : s.spare ≡ (get_or ss p blank).spare) (words : take (length ws) s.words ≡ ws) (short : length ws ≤ longest) where
+    abbrev ldir : List (Option Entry)
+    ldir = set dir k (Some (record { slot = p; len = length ws }))
+
+    abbrev lss : List Slot
+    lss = set ss p s
+
+    pub laid_kept : Kept ldir lss left
+    laid_kept = let h = had in subst (λ (d : List (Option Entry)). Kept d lss left) (h.4 _) (wrote_kept h.0 ss left k p s ws h.1 kl h.2 h.3 spare words short)
+
+    pub laid_files : image_files ldir lss ≡ set (image_files dir ss) k (Some ws)
+    laid_files = let h = had in sym (ap (λ d. image_files d lss) (h.4 _)) ∙ wrote_files h.0 ss left k p s ws h.1 kl h.2 h.3 spare words short ∙ h.5 (Some ws)
+
+  -- so there was room
+  pub chosen_admits : (ws : List ℕ) → length ws ≤ longest → true ≡ admits 32 (length ss) (image_files dir ss) k ws
+  chosen_admits ws short =
+      let s : Slot = record { spare = (get_or ss p blank).spare; words = ws } in
+      let words = take_all (length ws) ws (omega arith) in
+      admits_yes 32 (length ss) (image_files dir ss) k ws short kl (omega (arith, room_all (set ss p s) _ left (laid_kept s ws refl words short), ap (used 32) (laid_files s ws refl words short), length-set ss p s))
 
 -- The slot of one key becomes that of another, which was cleared: fs are the files before that.
 module _ (dir : List (Option Entry)) (ss : List Slot) (free : ℕ) (fs : Files) (from to : ℕ) (kept : Kept dir ss free) (tl : to < key_count) (ne : from ≡ to → ⊥)
@@ -346,15 +415,8 @@ module _ (dir : List (Option Entry)) (ss : List Slot) (free : ℕ) (kept : Kept 
   put_units k ws kl short =
       omega (arith, used_set 32 (image_files dir ss) k (Some ws) (omega (arith, kept.0, length-map dir (entry_file ss))), ap (units_of 32) (file_of dir ss k), units_file ss (entry_at dir k) (kept.2 k kl), used_slots ss dir free kept)
 
-  -- whether there is room
-  pub put_again : (k : ℕ) (ws : List ℕ) (e : Entry) → k < key_count → length ws ≤ longest → entry_at dir k ≡ Some e → used 32 (set (image_files dir ss) k (Some ws)) ≤ length ss
-  put_again k ws e kl short on = omega (arith, put_units k ws kl short, ap units on)
-
-  pub put_more : (k : ℕ) (ws : List ℕ) → k < key_count → length ws ≤ longest → entry_at dir k ≡ None → (free ≡ 0 → ⊥) → used 32 (set (image_files dir ss) k (Some ws)) ≤ length ss
-  put_more k ws kl short off some = omega (arith, put_units k ws kl short, ap units off)
-
-  pub put_full : (k : ℕ) (ws : List ℕ) → k < key_count → length ws ≤ longest → entry_at dir k ≡ None → free ≡ 0 → length ss < used 32 (set (image_files dir ss) k (Some ws))
-  put_full k ws kl short off full = omega (arith, put_units k ws kl short, ap units off)
+  pub full_admits : (k : ℕ) (ws : List ℕ) → k < key_count → length ws ≤ longest → (entry_at dir k ≡ None) × (free ≡ 0) → false ≡ admits 32 (length ss) (image_files dir ss) k ws
+  full_admits k ws kl short full = admits_full 32 (length ss) (image_files dir ss) k ws (omega (arith, put_units k ws kl short, ap units full.0, full.1))
 
   -- the only part of a file is the whole of it
   module _ (k : ℕ) (kl : k < key_count) (e : Entry) (on : entry_at dir k ≡ Some e) where

@@ -52,3 +52,8 @@ Kept dir ss free =
     × (sum_by units dir + free ≡ length ss)
     × ((k : ℕ) → k < key_count → Fits ss (entry_at dir k))
     × Apart (live dir free) (slot_at dir ss) (length ss)
+
+-- The slot for a key's words, and how many are free then: that of its file, or else the last of the free ones.
+abbrev pub choice : List Slot → ℕ → Option Entry → Option (ℕ × ℕ)
+choice ss free (Some e) = Some (e.slot, free)
+choice ss free None = cond (nat_lt 0 free) (Some ((slice_index_or ss (free - 1) blank).spare, free - 1)) None

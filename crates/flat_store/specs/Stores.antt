@@ -1,14 +1,11 @@
 -- What a flat store holds.
-use Rattle.std.specs.Prelude.{ℕ, Bool, length, is_some}
+use Rattle.std.specs.Prelude.{ℕ, length}
 use Rattle.store.specs.Files.{Files}
-use Rattle.flat_store.specs.Images.{image_files, entry_at}
+use Rattle.flat_store.specs.Images.{image_files}
 use Rattle.flat_store.specs.declared.flat.FlatStore.{FlatStore}
 
 abbrev pub files_in : FlatStore → Files
 files_in m = image_files m.dir.now m.slots.now
-
-abbrev pub held_at : FlatStore → ℕ → Bool
-held_at m k = is_some (entry_at m.dir.now k)
 
 -- every slot is one unit
 abbrev pub units_in : FlatStore → ℕ

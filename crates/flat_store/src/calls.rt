@@ -1,10 +1,10 @@
-ghost use Rattle.std.specs.Prelude.{◌≡◌, ◌<◌, ◌≤◌, true, [], length, Some, None, slice_set};
+ghost use Rattle.std.specs.Prelude.{◌≡◌, ◌<◌, length, IfSome};
 ghost use Rattle.std.proofs.Common.{lit≤, ◌∙◌};
 ghost use Rattle.std.proofs.lemmas.List.{length-map};
-ghost use Rattle.store.specs.Files.{key_count, longest};
-ghost use Rattle.flat_store.specs.Images.{entry_at, entry_file, slot_of};
+ghost use Rattle.store.specs.Files.{key_count};
+ghost use Rattle.flat_store.specs.Images.{choice, entry_at, entry_file};
 ghost use Rattle.flat_store.specs.Rooms.{room_all};
-ghost use Rattle.flat_store.specs.Stores.{files_in, held_at, units_in};
+ghost use Rattle.flat_store.specs.Stores.{files_in, units_in};
 
 use crate::cells::Entry;
 use crate::flat::FlatStore;
@@ -15,37 +15,18 @@ use store::keys::{KEYS, LONGEST};
 const BLOCK: usize = 32;
 
 impl FlatStore<'_> {
-    // An empty key gets the last of the free slots, and a file without words. Answers the slot.
-    fn take_slot(&mut self, key: usize) -> usize
-        requires key { key < key_count }
-        requires empty { entry_at self.old.dir.now key ≡ None }
-        requires free { 0 < self.old.free }
-        ensures held { held_at self.new key ≡ true }
-        ensures slot { slot_of (entry_at self.new.dir.now key) ≡ result }
-        ensures files { files_in self.new ≡ slice_set (files_in self.old) key (Some []) }
-        ensures units { units_in self.new ≡ units_in self.old }
+    // The slot for a key's words, and how many slots are free then: that of its file, or else the last of the free ones.
+    fn choose(&self, key: usize) -> Option<(usize, usize)>
+        requires { key < key_count }
+        ensures is { result ≡ choice self.now.slots.now self.now.free (entry_at self.now.dir.now key) }
+        ensures inside { IfSome result (λ q. q.0 < length self.now.slots.now) }
     {
-        let slot = self.slots[self.free - 1].spare;
-        self.dir[key] = Some(Entry { slot, len: 0 });
-        self.free -= 1;
-        slot
-    }
-
-    // The slot of a held key gets other words.
-    fn write(&mut self, key: usize, slot: usize, words: &[u32])
-        requires key { key < key_count }
-        requires held { held_at self.old key ≡ true }
-        requires slot { slot_of (entry_at self.old.dir.now key) ≡ slot }
-        requires short { length words.now ≤ longest }
-        ensures files { files_in self.new ≡ slice_set (files_in self.old) key (Some words.now) }
-        ensures units { units_in self.new ≡ units_in self.old }
-    {
-        let dir = &mut *self.dir;
-        let slots = &mut *self.slots;
-        let len = words.len();
-        let room = &mut slots[slot];
-        room.words[..len].copy_from_slice(words);
-        dir[key] = Some(Entry { slot, len });
+        if let Some(entry) = self.dir[key] {
+            return Some((entry.slot, self.free));
+        }
+        let left = self.free.checked_sub(1)?;
+        let slots = &*self.slots;
+        Some((slots[left].spare, left))
     }
 }
 
@@ -72,15 +53,16 @@ impl Store for FlatStore<'_> {
         if words.len() > LONGEST || key >= KEYS {
             return false;
         }
-        if let Some(entry) = self.dir[key] {
-            self.write(key, entry.slot, words);
-            return true;
-        }
-        if self.free == 0 {
+        let Some((slot, free)) = self.choose(key) else {
             return false;
-        }
-        let slot = self.take_slot(key);
-        self.write(key, slot, words);
+        };
+        let dir = &mut *self.dir;
+        let slots = &mut *self.slots;
+        let room = &mut slots[slot];
+        let len = words.len();
+        room.words[..len].copy_from_slice(words);
+        dir[key] = Some(Entry { slot, len });
+        self.free = free;
         true
     }
 
