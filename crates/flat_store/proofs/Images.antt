@@ -370,8 +370,8 @@ module _ (dir : List (Option Entry)) (ss : List Slot) (free : ℕ) (fs : Files) 
   other_is : (z : ℕ) → (z ≡ from → ⊥) → (z ≡ to → ⊥) → entry_at rdir z ≡ entry_at dir z
   other_is z a b = entry_other mid from None mid_long fl z a ∙ entry_other dir to file kept.0 tl z b
 
-  renamed_kept : Kept rdir ss free
-  renamed_kept = (
+  rdir_kept : Kept rdir ss free
+  rdir_kept = (
     length-set mid from None ∙ mid_long,
     omega (arith, kept.1, entry_sum mid from None mid_long fl, entry_sum dir to file kept.0 tl, ap units empty, ap units (entry_other dir to file kept.0 tl from ne)),
     entry_fits mid from None mid_long fl ss (entry_fits dir to file kept.0 tl ss kept.2 (kept.2 from fl)) (fits_none ss),
@@ -388,11 +388,11 @@ module _ (dir : List (Option Entry)) (ss : List Slot) (free : ℕ) (fs : Files) 
   swapped : rdir ≡ dir'
   swapped = ap (set mid from) (sym empty) ∙ swap_is dir to from None (omega (arith, kept.0)) (omega (arith, fl, kept.0)) ∙ sym new
 
-  pub carried_kept : Kept dir' ss free
-  carried_kept = subst (λ (d : List (Option Entry)). Kept d ss free) swapped renamed_kept
+  pub renamed_kept : Kept dir' ss free
+  renamed_kept = subst (λ (d : List (Option Entry)). Kept d ss free) swapped rdir_kept
 
-  pub carried_files : image_files dir' ss ≡ moved fs from to
-  carried_files =
+  pub renamed_files : image_files dir' ss ≡ moved fs from to
+  renamed_files =
       ap (λ d. image_files d ss) (sym swapped)
       ∙ map-set (entry_file ss) mid from None
       ∙ ap (λ gs. set gs from None) (map-set (entry_file ss) dir to file ∙ ap (set (image_files dir ss) to) (sym (file_of dir ss from)))

@@ -25,8 +25,7 @@ impl FlatStore<'_> {
             return Some((entry.slot, self.free));
         }
         let left = self.free.checked_sub(1)?;
-        let slots = &*self.slots;
-        Some((slots[left].spare, left))
+        Some((self.slots[left].spare, left))
     }
 }
 
@@ -58,8 +57,8 @@ impl Store for FlatStore<'_> {
         };
         let dir = &mut *self.dir;
         let slots = &mut *self.slots;
-        let room = &mut slots[slot];
         let len = words.len();
+        let room = &mut slots[slot];
         room.words[..len].copy_from_slice(words);
         dir[key] = Some(Entry { slot, len });
         self.free = free;
@@ -96,10 +95,7 @@ impl Store for FlatStore<'_> {
     fn part(&self, key: usize, at: usize) -> &[u32] {
         let slots = &*self.slots;
         match self.dir.get(key) {
-            Some(Some(entry)) if at == 0 => {
-                let slot = &slots[entry.slot];
-                &slot.words[..entry.len]
-            }
+            Some(Some(entry)) if at == 0 => &slots[entry.slot].words[..entry.len],
             _ => &[],
         }
     }
