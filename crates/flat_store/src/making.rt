@@ -1,6 +1,6 @@
-ghost use Rattle.std.specs.Prelude.{◌≡◌, ℕ, ◌<◌, length, replicate, None, MatchOption, slice_index_or};
+ghost use Rattle.std.specs.Prelude.{◌≡◌, ℕ, length, replicate, None, MatchOption};
 ghost use Rattle.store.specs.Files.{key_count};
-ghost use Rattle.flat_store.specs.Images.{Kept, image_files, blank};
+ghost use Rattle.flat_store.specs.Images.{Kept, image_files};
 ghost use Rattle.flat_store.specs.Stores.{files_in, units_in};
 ghost use Rattle.flat_store.specs.Taking.{Whole, Damaged};
 

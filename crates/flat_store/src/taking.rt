@@ -1,4 +1,4 @@
-ghost use Rattle.std.specs.Prelude.{◌≡◌, ℕ, ◌<◌, ◌≤◌, true, length, IfNone, if◌then◌else◌, Some, count_by, MatchOption, slice_index_or};
+ghost use Rattle.std.specs.Prelude.{◌≡◌, ℕ, ◌<◌, true, length, IfNone, if◌then◌else◌, Some, count_by, MatchOption, slice_index_or};
 ghost use Rattle.store.specs.Files.{key_count};
 ghost use Rattle.flat_store.specs.Images.{blank, words_at, Fits};
 ghost use Rattle.flat_store.specs.Taking.{markable, marked, unnamed, Whole, Damaged, Marks, Free};
