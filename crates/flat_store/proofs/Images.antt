@@ -2,7 +2,7 @@
 use Rattle.std.proofs.Common.{◌≡◌, ℕ, zero, suc, ◌+◌, ◌-◌, ◌*◌, ◌<◌, ◌≤◌, Bool, true, false, cond, ltb, List, [], ◌∷◌, ◌++◌, map, length, get_or, take, drop, set, replicate, Option, is_some, Some, None, sum_by, sym, refl, ap, ◌∙◌, subst, inl, inr, arith}
 use mathlib.Core.Path.{fun_ext}
 use Rattle.std.specs.List.{swap}
-use Rattle.std.proofs.lemmas.List.{get_or-set_same, get_or-set_other, map-set, set-set, get_or-replicate, length-replicate, length-set, length-map, length-take, set-get_or, take_at, take_all, drop_all}
+use Rattle.std.proofs.lemmas.List.{get_or-set_same, get_or-set_other, map-set, set-set, get_or-replicate, length-replicate, length-set, length-map, length-take, set-get_or, take_at, take_all}
 use Rattle.std.proofs.lemmas.List.Edits.{swap_is}
 use Rattle.std.proofs.lemmas.List.Sums.{sum_by-cons, sum_by-set, get_or-le-sum_by}
 use Rattle.std.proofs.lemmas.Bool.{cases_eq, cases_lt, cond-true, lt-ltb, le-ltb, ltb-true, ltb-false, both_ways, false≢true}
@@ -16,7 +16,7 @@ use Rattle.flat_store.specs.declared.cells.Entry.{Entry}
 use Rattle.flat_store.specs.declared.cells.Slot.{Slot}
 use Rattle.flat_store.proofs.Places.{live_key, live_free, slot_key, slot_free, renamed, unchanged}
 
-pub fits_some : (ss : List Slot) (e : Entry) → (e.len ≤ longest) × (e.len ≤ length (words_at ss e.slot)) → Fits ss (Some e)
+fits_some : (ss : List Slot) (e : Entry) → (e.len ≤ longest) × (e.len ≤ length (words_at ss e.slot)) → Fits ss (Some e)
 fits_some ss e h f q = subst (λ (x : Entry). (x.len ≤ longest) × (x.len ≤ length (words_at ss x.slot))) (same_Some e f q) h
 
 pub fits_none : (ss : List Slot) → Fits ss None
@@ -34,7 +34,7 @@ module _ (ss ss' : List Slot) (words : (p : ℕ) → words_at ss' p ≡ words_at
   pub fits_same : (o : Option Entry) → Fits ss o → Fits ss' o
   fits_same o fits e q = let f = fits e q in (f.0, subst (λ (ws : List ℕ). e.len ≤ length ws) (sym (words e.slot)) f.1)
 
-  pub file_same : (o : Option Entry) → entry_file ss' o ≡ entry_file ss o
+  file_same : (o : Option Entry) → entry_file ss' o ≡ entry_file ss o
   file_same None = refl
   file_same (Some e) = ap (λ ws. Some (take e.len ws)) (words e.slot)
 
@@ -42,7 +42,7 @@ module _ (ss ss' : List Slot) (words : (p : ℕ) → words_at ss' p ≡ words_at
   files_same dir = ap (λ g. map g dir) (fun_ext file_same)
 
 -- the file of a key
-pub file_of : (dir : List (Option Entry)) (ss : List Slot) (k : ℕ) → file_at (image_files dir ss) k ≡ entry_file ss (entry_at dir k)
+file_of : (dir : List (Option Entry)) (ss : List Slot) (k : ℕ) → file_at (image_files dir ss) k ≡ entry_file ss (entry_at dir k)
 file_of [] ss k = refl
 file_of (o ∷ dir) ss zero = refl
 file_of (o ∷ dir) ss (suc k) = file_of dir ss k
@@ -70,7 +70,7 @@ file_gone (f ∷ fs) (suc k) = file_gone fs k
 
 -- one entry changes
 module _ (dir : List (Option Entry)) (k : ℕ) (o : Option Entry) (long : length dir ≡ key_count) (kl : k < key_count) where
-  pub entry_here : entry_at (set dir k o) k ≡ o
+  entry_here : entry_at (set dir k o) k ≡ o
   entry_here = get_or-set_same dir k o None (omega arith)
 
   entry_other : (j : ℕ) → (j ≡ k → ⊥) → entry_at (set dir k o) j ≡ entry_at dir j
@@ -135,7 +135,7 @@ module _ (dir : List (Option Entry)) (ss : List Slot) (free : ℕ) (k : ℕ) (e 
   abbrev css : List Slot
   css = set ss free s
 
-  pub free_in : free < length ss
+  free_in : free < length ss
   free_in = omega (arith, kept.1, held_le dir k e kept.0 kl held)
 
   end : key_count + free - key_count ≡ free
@@ -420,15 +420,11 @@ module _ (dir : List (Option Entry)) (ss : List Slot) (free : ℕ) (kept : Kept 
 
   -- the only part of a file is the whole of it
   module _ (k : ℕ) (kl : k < key_count) (e : Entry) (on : entry_at dir k ≡ Some e) where
-    pub file_is : file_at (image_files dir ss) k ≡ Some (take e.len (words_at ss e.slot))
+    file_is : file_at (image_files dir ss) k ≡ Some (take e.len (words_at ss e.slot))
     file_is = file_of dir ss k ∙ ap (entry_file ss) on
 
-    pub file_length : length (take e.len (words_at ss e.slot)) ≡ e.len
+    file_length : length (take e.len (words_at ss e.slot)) ≡ e.len
     file_length = length_file ss e (subst (λ (o : Option Entry). Fits ss o) on (kept.2 k kl))
-
-    pub part_past : (at : ℕ) → 0 < at → [] ≡ take 32 (drop (at * 32) (words_of (file_at (image_files dir ss) k)))
-    part_past at h =
-        sym (ap (λ f. take 32 (drop (at * 32) (words_of f))) file_is ∙ ap (take 32) (drop_all (at * 32) _ (omega (arith, file_length, kept.2 k kl e on))))
 
     pub part_first : (at : ℕ) → at ≡ 0 → take e.len (words_at ss e.slot) ≡ take 32 (drop (at * 32) (words_of (file_at (image_files dir ss) k)))
     part_first at z =

@@ -2,13 +2,13 @@
 use Rattle.std.proofs.Common.{◌≡◌, ℕ, suc, ◌+◌, ◌-◌, ◌<◌, ◌≤◌, Bool, true, false, cond, ◌&&◌, eqb, ltb, leb, List, [], ◌∷◌, length, get_or, take, set, Option, Some, None, sum_by, count_by, sym, refl, ap, ◌∙◌, subst, inl, inr, arith}
 use Rattle.std.proofs.lemmas.List.{get_or-set_same, get_or-set_other, set_past, get_or-take, length-take, length-set, take_all}
 use Rattle.std.proofs.lemmas.List.Sums.{sum_by-cons, sum_by-set, sum_by_more, get_or-le-sum_by}
-use Rattle.std.proofs.lemmas.Bool.{cases_eq, cases_lt, cases_order, eqb-true, eq-eqb, ne_eqb, ltb-true, and_parts, both_ways}
+use Rattle.std.proofs.lemmas.Bool.{cases_eq, cases_lt, cases_order, eqb-true, eq-eqb, ne_eqb, ltb-true, and_parts}
 use Rattle.store.specs.Files.{key_count, longest}
 use Rattle.flat_store.specs.Images.{blank, entry_at, words_at, slot_of, live, slot_at, Fits, units, Kept}
-use Rattle.flat_store.specs.Taking.{names, named, good_after, good, Whole, Damaged, markable, marked, unnamed, Marks, Free}
+use Rattle.flat_store.specs.Taking.{names, named, good_after, good, Whole, markable, marked, unnamed, Marks, Free}
 use Rattle.flat_store.specs.declared.cells.Entry.{Entry}
 use Rattle.flat_store.specs.declared.cells.Slot.{Slot}
-use Rattle.flat_store.proofs.Images.{fits_none, fits_same}
+use Rattle.flat_store.proofs.Images.{fits_same}
 use Rattle.flat_store.proofs.Places.{some_of, live_key, live_free, slot_key, slot_free}
 
 module _ (ss : List Slot) (i : ℕ) (s : Slot) where
@@ -44,7 +44,7 @@ pub no_marks : (dir : List (Option Entry)) (ss : List Slot) → ((p : ℕ) → p
 no_marks dir ss h = (h, omega (arith, all_lack ss h), (λ j l. absurd (omega arith)), λ j l. absurd (omega arith))
 
 -- an entry before k that names p is counted
-pub named_some : (dir : List (Option Entry)) (k j p : ℕ) (e : Entry) → j < k → k ≤ length dir → entry_at dir j ≡ Some e → e.slot ≡ p → 1 ≤ named p (take k dir)
+named_some : (dir : List (Option Entry)) (k j p : ℕ) (e : Entry) → j < k → k ≤ length dir → entry_at dir j ≡ Some e → e.slot ≡ p → 1 ≤ named p (take k dir)
 named_some dir k j p e jl kl on q =
     let t : names p (entry_at dir j) ≡ true = ap (names p) on ∙ eq-eqb _ _ q in
     omega (arith, get_or-le-sum_by (once (names p)) (take k dir) j None (omega (arith, length-take k dir)), ap (once (names p)) (get_or-take k dir j None jl), ap (λ (b : Bool). cond {A = ℕ} b 1 0) t)
@@ -59,15 +59,6 @@ module _ (dir : List (Option Entry)) (ss : List Slot) (k : ℕ) (long : length d
   below : (P : ℕ → Type 0) → ((j : ℕ) → j < k → P j) → P k → (j : ℕ) → j < k + 1 → P j
   below P h here j l = elim (cases_eq j k) [ inl q ↦ subst P (sym q) here | inr a ↦ h j (omega arith) ]
 
-  -- an empty key
-  pub skip_marks : entry_at dir k ≡ None → Marks dir ss (k + 1)
-  skip_marks off = (
-    (λ p h. marks.0 p h ∙ omega (arith, named_more p, ap (λ (o : Option Entry). cond {A = ℕ} (names p o) 1 0) off)),
-    omega (arith, marks.1, units_more, ap units off),
-    below (λ (j : ℕ). Fits ss (entry_at dir j)) marks.2 (subst (λ (o : Option Entry). Fits ss o) (sym off) (fits_none ss)),
-    below (λ (j : ℕ). good dir (length ss) j ≡ true) marks.3 (ap (good_after (take k dir) (length ss)) off),
-  )
-
   module _ (e : Entry) (on : entry_at dir k ≡ Some e) where
     -- what can be marked is good, and the other way round
     good_is : good dir (length ss) k ≡ markable ss e
@@ -77,12 +68,9 @@ module _ (dir : List (Option Entry)) (ss : List Slot) (k : ℕ) (long : length d
         go true h = ap (λ (n : ℕ). leb e.len longest && eqb n 0) (sym (marks.0 e.slot (ltb-true _ _ h)))
         go false h = refl
 
-    pub bad_entry : false ≡ markable ss e → Damaged dir (length ss) k
-    bad_entry h = (kl, marks.3, good_is ∙ sym h)
-
     -- an entry whose slot gets its mark
     module _ (ok : true ≡ markable ss e) (fits : Fits ss (Some e)) where
-      abbrev pub mss : List Slot
+      abbrev mss : List Slot
       mss = marked ss e.slot
 
       there : (ltb e.slot (length ss) ≡ true) × (eqb (get_or ss e.slot blank).spare 0 ≡ true)
@@ -132,9 +120,6 @@ Listed old ss p free =
     × ((i : ℕ) → i < free → ((get_or ss i blank).spare < p) × Free old (get_or ss i blank).spare)
     × ((i j : ℕ) → i < j → j < free → (get_or ss i blank).spare < (get_or ss j blank).spare)
     × ((q : ℕ) → words_at ss q ≡ words_at old q)
-
-pub list_none : (ss : List Slot) → Listed ss ss 0 0
-list_none ss = (refl, omega arith, (λ q h. refl), (λ i h. absurd (omega arith)), (λ i j h g. absurd (omega arith)), λ q. refl)
 
 module _ (old ss : List Slot) (p free : ℕ) (long : length ss ≡ length old) (pl : p < length old) (inv : Listed old ss p free) where
   lack_more : count_by unnamed (take (p + 1) old) ≡ count_by unnamed (take p old) + lack (get_or old p blank)
@@ -268,7 +253,3 @@ module _ (dir : List (Option Entry)) (ss old : List Slot) (free : ℕ) (long : l
 -- the end of the search for damage
 pub whole : (dir : List (Option Entry)) (ss : List Slot) (k n : ℕ) → k ≡ key_count → length ss ≡ n → Marks dir ss k → Whole dir n
 whole dir ss k n e l marks j jl = ap (λ (m : ℕ). good dir m j) (sym l) ∙ marks.3 j (omega arith)
-
--- no image is whole and damaged
-pub not_both : (dir : List (Option Entry)) (n k : ℕ) → Whole dir n → Damaged dir n k → ⊥
-not_both dir n k whole bad = both_ways (good dir n k) bad.2 (whole k bad.0)
