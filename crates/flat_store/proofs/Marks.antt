@@ -12,13 +12,13 @@ use Rattle.flat_store.proofs.Images.{fits_same}
 use Rattle.flat_store.proofs.Places.{some_of, live_key, live_free, slot_key, slot_free}
 
 module _ (ss : List Slot) (i : ℕ) (s : Slot) where
-  pub spare_here : i < length ss → (get_or (set ss i s) i blank).spare ≡ s.spare
+  spare_here : i < length ss → (get_or (set ss i s) i blank).spare ≡ s.spare
   spare_here h = ap (λ x. x.spare) (get_or-set_same ss i s blank h)
 
-  pub spare_other : (p : ℕ) → (p ≡ i → ⊥) → (get_or (set ss i s) p blank).spare ≡ (get_or ss p blank).spare
+  spare_other : (p : ℕ) → (p ≡ i → ⊥) → (get_or (set ss i s) p blank).spare ≡ (get_or ss p blank).spare
   spare_other p h = ap (λ x. x.spare) (get_or-set_other ss i p s blank h)
 
-  pub spare_words : s.words ≡ words_at ss i → (p : ℕ) → words_at (set ss i s) p ≡ words_at ss p
+  spare_words : s.words ≡ words_at ss i → (p : ℕ) → words_at (set ss i s) p ≡ words_at ss p
   spare_words e p =
       elim (cases_eq p i) [
         | inl q ↦ elim (cases_lt i (length ss)) [
@@ -124,17 +124,6 @@ Listed old ss p free =
 module _ (old ss : List Slot) (p free : ℕ) (long : length ss ≡ length old) (pl : p < length old) (inv : Listed old ss p free) where
   lack_more : count_by unnamed (take (p + 1) old) ≡ count_by unnamed (take p old) + lack (get_or old p blank)
   lack_more = sum_by_more lack old p blank pl
-
-  pub list_skip : ((get_or ss p blank).spare ≡ 0 → ⊥) → Listed old ss (p + 1) free
-  list_skip h =
-      let t : eqb (get_or old p blank).spare 0 ≡ false = ne_eqb _ _ (λ e. h (inv.2 p (omega arith) ∙ e)) in (
-        omega (arith, inv.0, lack_more, ap (λ (b : Bool). cond {A = ℕ} b 1 0) t),
-        omega (arith, inv.1),
-        (λ q l. inv.2 q (omega arith)),
-        (λ i l. let f = inv.3 i l in (omega (arith, f.0), f.1)),
-        inv.4,
-        inv.5,
-      )
 
   module _ (s : Slot) (zero_here : (get_or ss p blank).spare ≡ 0) (spare : s.spare ≡ p) (words : s.words ≡ words_at ss free) where
     abbrev lss : List Slot
