@@ -11,11 +11,11 @@ use Rattle.std.specs.Cmp.Lexicographic.{pointwise}
 use Rattle.base.specs.declared.texts.ShortText.{ShortText}
 use Rattle.base.specs.declared.texts.TextKind.{TextKind}
 use Rattle.base.specs.declared.texts.TextKind.TheVariants.{Name as name, Version as version}
-use Rattle.base.specs.declared.name.Name.{Name}
-use Rattle.base.specs.declared.version.Version.{Version}
-use Rattle.base.specs.Texts.{allowed, spelled, all, fitting, may_begin, may_follow, holds, padded, spelt, before, name_row, version_row}
+use Rattle.base.specs.declared.kinds.Kind.{Ghosts as Kind}
+use Rattle.base.specs.declared.text.Text.{Text}
+use Rattle.base.specs.Texts.{allowed, spelled, all, fitting, may_begin, may_follow, holds, padded, spelt, before}
 use Rattle.base.proofs.Order.{before_padded}
-use Rattle.base.specs.Named.{row_of, row_if, name_text, version_text}
+use Rattle.base.specs.Named.{row_of, row_if, text}
 
 pub same_row : (a b : ShortText) → a.bytes ≡ b.bytes → a ≡ b
 same_row a b e = λ i. record { bytes = e i }
@@ -99,23 +99,15 @@ held kind bs h =
 told : (kind : TextKind) (xs ys : List ℕ) → holds kind xs ≡ true → holds kind ys ≡ true → spelt xs ≡ spelt ys → xs ≡ ys
 told kind xs ys h k e = sym (held kind xs h).1 ∙ ap padded e ∙ (held kind ys k).1
 
-pub same_name : (m n : Name) → m.row ≡ n.row → m ≡ n
-same_name m n e = λ i. record {
+pub same_text : {K : Type 0} {kind : Kind K} (s t : Text K kind) → s.row ≡ t.row → s ≡ t
+same_text {kind = kind} s t e = λ i. record {
   row = e i;
-  allowed = is_prop→PathP (λ j. name_row (e j).bytes ≡ true) (λ j. Bool-set (name_row (e j).bytes) true) m.allowed n.allowed i;
+  kind = record {};
+  allowed = is_prop→PathP (λ j. holds kind.KIND (e j).bytes ≡ true) (λ j. Bool-set (holds kind.KIND (e j).bytes) true) s.allowed t.allowed i;
 }
 
-pub same_version : (v w : Version) → v.row ≡ w.row → v ≡ w
-same_version v w e = λ i. record {
-  row = e i;
-  allowed = is_prop→PathP (λ j. version_row (e j).bytes ≡ true) (λ j. Bool-set (version_row (e j).bytes) true) v.allowed w.allowed i;
-}
-
-pub told_name : (m n : Name) → name_text m ≡ name_text n → m ≡ n
-told_name m n e = same_name m n (same_row m.row n.row (told name m.row.bytes n.row.bytes m.allowed n.allowed e))
-
-pub told_version : (v w : Version) → version_text v ≡ version_text w → v ≡ w
-told_version v w e = same_version v w (same_row v.row w.row (told version v.row.bytes w.row.bytes v.allowed w.allowed e))
+pub told_text : {K : Type 0} {kind : Kind K} (s t : Text K kind) → text s ≡ text t → s ≡ t
+told_text {kind = kind} s t e = same_text s t (same_row s.row t.row (told kind.KIND s.row.bytes t.row.bytes s.allowed t.allowed e))
 
 -- what `==` computes decides equality
 pub rows_decide : (a b : ShortText) → Decides (pointwise nat_eq a.bytes b.bytes) (a ≡ b)
@@ -123,15 +115,10 @@ rows_decide a b =
     let d = slice_eq-Decides Decides-eqb a.bytes b.bytes _ refl in
     (λ t. same_row a b (d.0 t), λ e. d.1 (λ i. (e i).bytes))
 
-pub names_decide : (m n : Name) → Decides (pointwise nat_eq m.row.bytes n.row.bytes) (m ≡ n)
-names_decide m n =
-    let d = rows_decide m.row n.row in
-    (λ t. same_name m n (d.0 t), λ e. d.1 (λ i. (e i).row))
-
-pub versions_decide : (v w : Version) → Decides (pointwise nat_eq v.row.bytes w.row.bytes) (v ≡ w)
-versions_decide v w =
-    let d = rows_decide v.row w.row in
-    (λ t. same_version v w (d.0 t), λ e. d.1 (λ i. (e i).row))
+pub texts_decide : {K : Type 0} {kind : Kind K} (s t : Text K kind) → Decides (pointwise nat_eq s.row.bytes t.row.bytes) (s ≡ t)
+texts_decide s t =
+    let d = rows_decide s.row t.row in
+    (λ p. same_text s t (d.0 p), λ e. d.1 (λ i. (e i).row))
 
 follow_solid : (kind : TextKind) (bs : List ℕ) → all (may_follow kind) bs ≡ true → all (ltb 0) bs ≡ true
 follow_solid kind [] h = refl

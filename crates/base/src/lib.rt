@@ -2,20 +2,21 @@
 #![tactic(auto)]
 
 mod files;
+mod kinds;
 mod laws;
-mod name;
+mod making;
 mod names;
 mod reasons;
 mod refusals;
 mod rules;
 mod short_texts;
+mod text;
 mod texts;
-mod version;
-mod versions;
 
 pub use files::FileKind;
+pub use kinds::{Kind, NameKind, VersionKind};
 pub use laws::{equality_decides, told_by_text};
-pub use name::Name;
+pub use names::{Name, Version};
 pub use reasons::{Layer, Reason, Refusal};
+pub use text::Text;
 pub use texts::{ShortText, TextKind};
-pub use version::Version;

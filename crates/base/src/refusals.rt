@@ -8,24 +8,7 @@ impl Reason {
     pub fn number(self) -> u8
         ensures { result ≡ number self }
     {
-        match self {
-            Reason::EndsEarly => 1,
-            Reason::WrongWord => 2,
-            Reason::OutsideLimits => 3,
-            Reason::PathNotRising => 4,
-            Reason::WrongEndCount => 5,
-            Reason::WrongLine => 6,
-            Reason::WrongValue => 7,
-            Reason::NotRising => 8,
-            Reason::BufferShort => 9,
-            Reason::TraceFull => 11,
-            Reason::RecordsFull => 12,
-            Reason::OwnedByOther => 13,
-            Reason::KindDiffers => 14,
-            Reason::NoRecord => 15,
-            Reason::WrongState => 16,
-            Reason::OwnersFull => 17,
-        }
+        self as u8
     }
 }
 
@@ -33,12 +16,7 @@ impl Layer {
     pub fn number(self) -> u8
         ensures { result ≡ rank self }
     {
-        match self {
-            Layer::Station => 0,
-            Layer::Words => 1,
-            Layer::Items => 2,
-            Layer::Text => 3,
-        }
+        self as u8
     }
 }
 

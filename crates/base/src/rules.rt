@@ -30,8 +30,8 @@ impl TextKind {
         ensures { result ≡ fitting self len }
     {
         match self {
-            TextKind::Name => 2 <= len && len <= 16,
-            TextKind::Version => 1 <= len && len <= 16,
+            TextKind::Name => (2..=16).contains(&len),
+            TextKind::Version => (1..=16).contains(&len),
         }
     }
 }

@@ -1,10 +1,6 @@
-ghost use Rattle.std.specs.Prelude.{◌≡◌, ◌≤◌, true, length, IfSome, Decides, nat_eq};
-ghost use Rattle.std.specs.Cmp.Lexicographic.{pointwise};
+ghost use Rattle.std.specs.Prelude.{◌≡◌, ◌≤◌, true, length, IfSome};
 ghost use Rattle.base.specs.Named.{row_of, row_if};
 ghost use Rattle.base.specs.Texts.{all, allowed, spelt, padded, before, may_follow, spells, holds};
-ghost use Rattle.std.specs.Cmp.Rules.{comparing};
-ghost use Rattle.std.proofs.Common.{rules};
-ghost use Rattle.std.specs.Cmp as Keys;
 
 use crate::texts::{ShortText, TextKind};
 
@@ -53,23 +49,6 @@ fn zero_padded(text: &[u8]) -> ShortText
     let part = &mut bytes[0..n];
     part.copy_from_slice(text);
     ShortText { bytes }
-}
-
-impl PartialEq for ShortText {
-    ghost eq = { λ x y. pointwise nat_eq x.bytes y.bytes };
-
-    ghost laws = { Keys.partial_equiv_from_equiv (Prim.search (comparing, rules)) };
-
-    fn eq(&self, other: &ShortText) -> bool
-        ensures gives { result ≡ pointwise nat_eq self.now.bytes other.now.bytes }
-        ensures decides { Decides result (self.now ≡ other.now) }
-    {
-        self.bytes == other.bytes
-    }
-}
-
-impl Eq for ShortText {
-    ghost laws = { Prim.search (comparing, rules) };
 }
 
 impl ShortText {
@@ -126,11 +105,6 @@ impl ShortText {
     pub fn before(&self, other: &ShortText) -> bool
         ensures { result ≡ before self.now.bytes other.now.bytes }
     {
-        for i in 0..16 {
-            if self.bytes[i] != other.bytes[i] {
-                return self.bytes[i] < other.bytes[i];
-            }
-        }
-        false
+        self.bytes < other.bytes
     }
 }

@@ -7,7 +7,7 @@ pub enum TextKind {
 
 // Up to sixteen bytes, zero bytes behind them: plain data, as rows of tables and traces hold it.
 // Nothing says that the text in it is allowed; a `Name` or a `Version` is made from it by a check.
-#[derive(Clone, Copy, Debug)]
+#[derive(Clone, Copy, Debug, PartialEq, Eq)]
 pub struct ShortText {
     pub bytes: [u8; 16],
 }

@@ -1,27 +1,26 @@
 -- The files of the chains, what they cost, and their parts.
-use Rattle.std.proofs.Common.{◌≡◌, ℕ, zero, suc, ◌+◌, ◌-◌, ◌*◌, ◌<◌, ◌≤◌, min, List, [], ◌∷◌, ◌++◌, map, length, get_or, take, drop, set, Some, None, sum_by, sym, refl, ap, ◌∙◌, subst, inl, inr, arith}
-use Rattle.std.proofs.lemmas.List.{get_or-set_same, get_or-set_other, get_or_past, get_or-map, get_or-take, length-set, length-map, length-take, length-append, set_past, take_all, take-take, take-append-drop, take-append-le, drop_all, drop_at, drop-drop, drop-take, ext_get_or}
+use Rattle.std.proofs.Common.{◌≡◌, ℕ, zero, suc, ◌+◌, ◌-◌, ◌*◌, ◌<◌, ◌≤◌, min, ltb, List, [], ◌∷◌, ◌++◌, map, length, get_or, take, drop, set, true, Option, is_some, Some, None, sum_by, sym, refl, ap, ◌∙◌, subst, inl, inr, arith}
+use Rattle.std.proofs.lemmas.Grind.{common_steps}
+use Rattle.std.proofs.lemmas.List.{get_or_past, get_or-map, get_or-take, length-set, length-map, length-take, length-append, take_all, take-take, take-append-drop, take-append-le, drop_all, drop_at, drop-drop, drop-take, ext_get_or}
 use Rattle.std.proofs.lemmas.List.Sums.{sum_by-cons, sum_by_more}
-use Rattle.std.proofs.lemmas.Bool.{cases_eq, cases_lt, cond-true, cond-false, lt-ltb, le-ltb}
+use Rattle.std.proofs.lemmas.Bool.{cases_lt, both_ways, cond-true, cond-false, lt-ltb, le-ltb}
+use Rattle.std.specs.Bool.{then_some}
+use Rattle.std.specs.Option.{MatchOption}
 use Rattle.store.specs.Files.{File, Files, key_count, cost, file_at, units_of, used, length_of, words_of}
 use Rattle.store.proofs.Facts.{used_set, part_none}
 use Rattle.block_store.specs.Walks.{chain_count, walk, content}
-use Rattle.block_store.specs.Chained.{none, next_in, words_in, chain_at, first_in, blocks_in, chain_content, chain_file, chain_files, Linked, Full, Kept}
+use Rattle.block_store.specs.Chained.{none, next_in, words_in, chain_at, first_in, blocks_in, chain_content, chain_file, chain_files, Linked, Full, AllFull, Kept}
 use Rattle.block_store.specs.declared.cells.Block.{Block}
+use Rattle.block_store.specs.Lent.{chain_of, file_of, files_in, Same}
 use Rattle.block_store.specs.declared.cells.Chain.{Chain}
+use Rattle.block_store.specs.declared.chains.Chains.{Chains}
 
 abbrev count : Chain → ℕ
 count e = e.blocks
 
 -- a list of files that differs from another under one key
 pub files_set : (fs gs : Files) (k : ℕ) (f : File) → length fs ≡ key_count → length gs ≡ key_count → k < key_count → file_at fs k ≡ f → ((j : ℕ) → (j ≡ k → ⊥) → j < key_count → file_at fs j ≡ file_at gs j) → fs ≡ set gs k f
-files_set fs gs k f a b kl here there =
-    ext_get_or None fs (set gs k f) (a ∙ sym (length-set gs k f ∙ b))
-    (λ j jl.
-    elim (cases_eq j k) [
-      | inl e ↦ ap (file_at fs) e ∙ here ∙ sym (get_or-set_same gs k f None (omega arith)) ∙ sym (ap (file_at (set gs k f)) e)
-      | inr ne ↦ there j ne (omega arith) ∙ sym (get_or-set_other gs k j f None ne)
-    ])
+files_set fs gs k f a b kl here there = ext_get_or None fs (set gs k f) (a ∙ sym (length-set gs k f ∙ b)) (λ j jl. grind (arith, common_steps, there j))
 
 module _ (dir : List Chain) (bs : List Block) (linked : Linked dir bs) where
   front_long : length (take key_count dir) ≡ key_count
@@ -30,38 +29,35 @@ module _ (dir : List Chain) (bs : List Block) (linked : Linked dir bs) where
   pub files_long : length (chain_files dir bs) ≡ key_count
   files_long = length-map (take key_count dir) (chain_file bs) ∙ front_long
 
-  pub file_of : (k : ℕ) → k < key_count → file_at (chain_files dir bs) k ≡ chain_file bs (chain_at dir k)
-  file_of k kl = get_or-map (chain_file bs) (take key_count dir) k none None (omega (arith, front_long)) ∙ ap (chain_file bs) (get_or-take key_count dir k none kl)
+  pub key_file : (k : ℕ) → k < key_count → file_at (chain_files dir bs) k ≡ chain_file bs (chain_at dir k)
+  key_file k kl = get_or-map (chain_file bs) (take key_count dir) k none None (omega (arith, front_long)) ∙ ap (chain_file bs) (get_or-take key_count dir k none kl)
 
   pub file_past : (k : ℕ) → key_count ≤ k → file_at (chain_files dir bs) k ≡ None
   file_past k h = get_or_past (chain_files dir bs) k None (omega (arith, files_long))
 
   pub file_none : (k : ℕ) → k < key_count → blocks_in dir k ≤ 0 → file_at (chain_files dir bs) k ≡ None
-  file_none k kl h = file_of k kl ∙ cond-false _ (Some (take (chain_at dir k).len (chain_content bs (chain_at dir k)))) None (le-ltb 0 _ h)
+  file_none k kl h = key_file k kl ∙ cond-false _ (Some (take (chain_at dir k).len (chain_content bs (chain_at dir k)))) None (le-ltb 0 _ h)
 
   pub file_some : (k : ℕ) → k < key_count → 0 < blocks_in dir k → file_at (chain_files dir bs) k ≡ Some (take (chain_at dir k).len (chain_content bs (chain_at dir k)))
-  file_some k kl h = file_of k kl ∙ cond-true _ _ None (lt-ltb 0 _ h)
+  file_some k kl h = key_file k kl ∙ cond-true _ _ None (lt-ltb 0 _ h)
 
-  pub clear_past : (k : ℕ) → key_count ≤ k → chain_files dir bs ≡ set (chain_files dir bs) k None
-  clear_past k h = sym (set_past (chain_files dir bs) k None (omega (arith, files_long)))
+  -- the chain of a key, where it has blocks
+  abbrev kept_chain : Chain → Option Chain
+  kept_chain e = then_some (ltb 0 e.blocks) e
 
--- one chain changes, and what the others hold stays
-module _ (dir dir' : List Chain) (bs bs' : List Block) (k : ℕ) (kept : Kept dir bs) (linked : Linked dir' bs') (kl : k < key_count)
-    (others : (j : ℕ) → (j ≡ k → ⊥) → j < key_count → (chain_at dir' j ≡ chain_at dir j) × (chain_file bs' (chain_at dir' j) ≡ chain_file bs (chain_at dir j))) where
-  pub changed_files : (f : File) → chain_file bs' (chain_at dir' k) ≡ f → chain_files dir' bs' ≡ set (chain_files dir bs) k f
-  changed_files f e =
-      files_set (chain_files dir' bs') (chain_files dir bs) k f (files_long dir' bs' linked) (files_long dir bs kept.0) kl (file_of dir' bs' linked k kl ∙ e)
-      (λ j ne jl. file_of dir' bs' linked j jl ∙ (others j ne jl).1 ∙ sym (file_of dir bs kept.0 j jl))
+  pub chain_found : (k : ℕ) (e : Chain) → k < key_count → chain_at dir k ≡ e → MatchOption (kept_chain e) (file_at (chain_files dir bs) k ≡ None) (λ x. (k < key_count) × (chain_at dir k ≡ x) × (0 < x.blocks))
+  chain_found k e kl is =
+      elim (cases_lt 0 e.blocks) [
+        | inl h ↦ rw (lt-ltb 0 e.blocks h) (kl, is, h)
+        | inr h ↦ rw (le-ltb 0 e.blocks h) (file_none k kl (omega (arith, ap count is)))
+      ]
 
-  pub changed_kept : Full (chain_at dir' k) → Kept dir' bs'
-  changed_kept full = (
-    linked,
-    λ j jl.
-        elim (cases_eq j k) [
-          | inl e ↦ subst (λ (x : ℕ). Full (chain_at dir' x)) (sym e) full
-          | inr ne ↦ subst Full (sym (others j ne jl).0) (kept.1 j jl)
-        ],
-  )
+  pub chain_held : (k : ℕ) (e : Chain) → k < key_count → chain_at dir k ≡ e → is_some (kept_chain e) ≡ is_some (file_at (chain_files dir bs) k)
+  chain_held k e kl is =
+      elim (cases_lt 0 e.blocks) [
+        | inl h ↦ rw (lt-ltb 0 e.blocks h) (sym (ap is_some (file_some k kl (omega (arith, ap count is, h)))))
+        | inr h ↦ rw (le-ltb 0 e.blocks h) (sym (ap is_some (file_none k kl (omega (arith, ap count is)))))
+      ]
 
 -- blocks of four words
 module _ (bs : List Block) (wide : (p : ℕ) → p < length bs → length (words_in bs p) ≡ 4) where
@@ -145,13 +141,10 @@ module _ (dir : List Chain) (bs : List Block) (kept : Kept dir bs) where
       omega (arith, used_from bs kept.0.2 (take key_count dir) in_front, sum_by_more count dir key_count none (omega (arith, kept.0.0)), ap (sum_by count) (take_all (key_count + 1) dir (omega (arith, kept.0.0))), kept.0.1)
 
   units_at : (k : ℕ) → k < key_count → units_of 4 (file_at (chain_files dir bs) k) ≡ blocks_in dir k
-  units_at k kl = ap (units_of 4) (file_of dir bs kept.0 k kl) ∙ units_chain bs kept.0.2 (chain_at dir k) (kept.1 k kl) (ranged k (omega arith))
+  units_at k kl = ap (units_of 4) (key_file dir bs kept.0 k kl) ∙ units_chain bs kept.0.2 (chain_at dir k) (kept.1 k kl) (ranged k (omega arith))
 
   pub put_units : (k : ℕ) (ws : List ℕ) → k < key_count → used 4 (set (chain_files dir bs) k (Some ws)) + blocks_in dir k + blocks_in dir key_count ≡ length bs + cost 4 (length ws)
   put_units k ws kl = omega (arith, used_set 4 (chain_files dir bs) k (Some ws) (omega (arith, files_long dir bs kept.0)), units_at k kl, used_blocks)
-
-  pub clear_used : (k : ℕ) → k < key_count → used 4 (set (chain_files dir bs) k None) + blocks_in dir k + blocks_in dir key_count ≡ length bs
-  clear_used k kl = omega (arith, used_set 4 (chain_files dir bs) k None (omega (arith, files_long dir bs kept.0)), units_at k kl, used_blocks)
 
   pub file_length : (k : ℕ) → k < key_count → 0 < blocks_in dir k → Some (chain_at dir k).len ≡ length_of (file_at (chain_files dir bs) k)
   file_length k kl h =
@@ -174,18 +167,33 @@ module _ (dir : List Chain) (bs : List Block) (kept : Kept dir bs) where
         | inr off ↦ part_none 4 (at * 4) _ (file_none dir bs kept.0 k kl off)
       ]
 
-  pub part_high : (k at : ℕ) → key_count ≤ k → [] ≡ take 4 (drop (at * 4) (words_of (file_at (chain_files dir bs) k)))
-  part_high k at h = part_none 4 (at * 4) _ (file_past dir bs kept.0 k h)
-
 pub empty_file : (bs : List Block) (e : Chain) → e.blocks ≤ 0 → chain_file bs e ≡ None
 empty_file bs e h = cond-false _ (Some (take e.len (chain_content bs e))) None (le-ltb 0 _ h)
 
 pub whole_file : (bs : List Block) (e : Chain) (ws : List ℕ) → 0 < e.blocks → take e.len (chain_content bs e) ≡ ws → chain_file bs e ≡ Some ws
 whole_file bs e ws some h = cond-true _ _ None (lt-ltb 0 _ some) ∙ ap Some h
 
--- the free blocks after a clear
-pub clear_free : (dir dir' : List Chain) (bs bs' : List Block) (k : ℕ) → Kept dir bs → Kept dir' bs' → k < key_count → chain_files dir' bs' ≡ set (chain_files dir bs) k None → length bs' ≡ length bs → blocks_in dir' key_count ≡ blocks_in dir key_count + blocks_in dir k
-clear_free dir dir' bs bs' k kept kept' kl e l = omega (arith, ap (used 4) e, clear_used dir bs kept k kl, used_blocks dir' bs' kept')
+-- a key that holds a file is one of the keys
+pub held_low : (c : Chains) (k : ℕ) → is_some (file_at (files_in c) k) ≡ true → k < key_count
+held_low c k h = elim (cases_lt k key_count) [ inl l ↦ l | inr l ↦ absurd (both_ways _ (ap is_some (file_past c.dir.now c.blocks.now c.linked k l)) h) ]
+
+-- one chain changes, and what the others hold stays
+module _ (n m : Chains) (k : ℕ) (full : AllFull n.dir.now) (kl : k < key_count) (others : (j : ℕ) → (j ≡ k → ⊥) → j < key_count → Same m n j) where
+  pub changed_files : (f : File) → file_of m k ≡ f → files_in m ≡ set (files_in n) k f
+  changed_files f e =
+      files_set (files_in m) (files_in n) k f (files_long m.dir.now m.blocks.now m.linked) (files_long n.dir.now n.blocks.now n.linked) kl (key_file m.dir.now m.blocks.now m.linked k kl ∙ e)
+      (λ j ne jl. key_file m.dir.now m.blocks.now m.linked j jl ∙ (others j ne jl).1 ∙ sym (key_file n.dir.now n.blocks.now n.linked j jl))
+
+  pub changed_kept : Full (chain_of m k) → Kept m.dir.now m.blocks.now
+  changed_kept new = (m.linked, λ j jl. grind (arith, common_steps, others j, full j))
+
+  -- it has no blocks now
+  module _ (empty : (chain_of m k).blocks ≡ 0) where
+    pub freed_files : files_in m ≡ set (files_in n) k None
+    freed_files = changed_files None (empty_file m.blocks.now (chain_of m k) (omega arith))
+
+    pub freed_kept : Kept m.dir.now m.blocks.now
+    freed_kept = changed_kept (λ h. absurd (omega arith))
 
 -- a file in parts of four words
 take_append : (n : ℕ) (p q : List ℕ) → take n (p ++ q) ≡ take n p ++ take (n - length p) q
@@ -196,13 +204,6 @@ take_append (suc n) (x ∷ p) q =
     let e : n - length p ≡ suc n - suc (length p) = omega arith in
     ap (λ ys. x ∷ ys) (take_append n p q ∙ ap (λ (m : ℕ). take n p ++ take m q) e)
 
-pub take_min : (n : ℕ) (xs : List ℕ) → take n xs ≡ take (min n (length xs)) xs
-take_min n xs =
-    elim (cases_lt n (length xs)) [
-      | inl h ↦ (let e : n ≡ min n (length xs) = omega arith in ap (λ (m : ℕ). take m xs) e)
-      | inr h ↦ (let e : length xs ≡ min n (length xs) = omega arith in take_all n xs h ∙ sym (take_all (length xs) xs (omega arith)) ∙ ap (λ (m : ℕ). take m xs) e)
-    ]
-
 -- one part more in front
 pub part_more : (ws part C : List ℕ) (q r : ℕ) → r ≡ q + 4 → length part ≡ 4 → take (length ws - q) part ≡ take 4 (drop q ws) → take (length ws - r) C ≡ drop r ws → take (length ws - q) (part ++ C) ≡ drop q ws
 part_more ws part C q r e l h t =
@@ -212,3 +213,7 @@ part_more ws part C q r e l h t =
     ∙ ap (λ (m : ℕ). take 4 (drop q ws) ++ take m C) m
     ∙ ap (λ ys. take 4 (drop q ws) ++ ys) (t ∙ ap (λ (m : ℕ). drop m ws) e ∙ sym (drop-drop 4 q ws))
     ∙ take-append-drop 4 (drop q ws)
+
+-- what the ghost fields of a store say
+pub store_facts : (dir : List Chain) (bs : List Block) → Kept dir bs → AllFull dir × (length (chain_files dir bs) ≡ key_count) × (used 4 (chain_files dir bs) ≤ length bs)
+store_facts dir bs kept = (kept.1, files_long dir bs kept.0, omega (arith, used_blocks dir bs kept))

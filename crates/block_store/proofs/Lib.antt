@@ -1,6 +1,5 @@
 mod WalkFacts
 mod FileFacts
 mod ChainFacts
-mod Sounds
 mod Marks
 mod Taken

@@ -1,9 +1,9 @@
 -- An image that was looked through, with its free blocks chained, is a sound store with the files that it had.
-use Rattle.std.proofs.Common.{◌≡◌, ℕ, zero, suc, ◌+◌, ◌<◌, Bool, true, false, cond, ltb, List, [], ◌∷◌, ◌++◌, map, length, get_or, take, set, Some, None, sum_by, count_by, sym, refl, ap, ◌∙◌, subst, inl, inr, arith}
+use Rattle.std.proofs.Common.{◌≡◌, ℕ, zero, suc, ◌+◌, ◌<◌, Bool, true, false, cond, ltb, List, ◌++◌, map, length, get_or, take, set, Some, None, sum_by, count_by, sym, refl, ap, ◌∙◌, subst, arith}
 use mathlib.Core.Path.{fun_ext}
-use Rattle.std.proofs.lemmas.List.{get_or-set_same, get_or-set_other, get_or-take, length-set, length-take, take_all, take-set}
+use Rattle.std.proofs.lemmas.Grind.{common_steps}
+use Rattle.std.proofs.lemmas.List.{get_or-set_same, get_or-set_other, get_or-take, ext_get_or, length-map, length-set, length-take, take_all, take-set}
 use Rattle.std.proofs.lemmas.List.Sums.{sum_by_more}
-use Rattle.std.proofs.lemmas.Bool.{cases_eq, cases_order, both_ways}
 use Rattle.store.specs.Files.{key_count}
 use Rattle.block_store.specs.Walks.{chain_count, walk, content}
 use Rattle.block_store.specs.Chained.{none, next_in, words_in, chain_at, first_in, blocks_in, chain_file, chain_files, Full, Kept}
@@ -24,8 +24,7 @@ content_like nx nx' wd wd' (suc c) p h =
     ∙ ap (λ x. wd p ++ x) (content_like nx nx' wd wd' c (nx p) (λ m l. h (suc m) (omega arith)))
 
 map_like : {X Y : Type 0} (g g' : X → Y) (d : X) (xs : List X) → ((j : ℕ) → j < length xs → g' (get_or xs j d) ≡ g (get_or xs j d)) → map g' xs ≡ map g xs
-map_like g g' d [] h = refl
-map_like g g' d (x ∷ xs) h = ap (λ z. z ∷ map g' xs) (h 0 (omega arith)) ∙ ap (λ zs. g x ∷ zs) (map_like g g' d xs (λ j l. h (suc j) (omega arith)))
+map_like g g' d xs h = ext_get_or (g d) (map g' xs) (map g xs) (length-map xs g' ∙ sym (length-map xs g)) (λ i l. grind (arith, common_steps, h i))
 
 module _
     (dir : List Chain) (old new : List Block) (free : Chain) (long : length dir ≡ chain_count) (same : length new ≡ length old) (marks : Marks dir old key_count)
@@ -67,58 +66,16 @@ module _
         go false off = wide q (omega arith) off
 
     within : (k i : ℕ) → k < chain_count → i < blocks_in tdir k → walk (next_in new) i (first_in tdir k) < length new
-    within k i kl il =
-        elim (cases_eq k key_count) [
-          | inl e ↦ (
-              let t : chain_at tdir k ≡ free = ap (chain_at tdir) e ∙ t_free in
-              let f = (unmarked.0 i (omega (arith, ap (λ c. c.blocks) t))).0 in
-              omega (arith, f, ap (λ (c : Chain). walk (next_in new) i c.first) t))
-          | inr a ↦ (
-              let l : k < key_count = omega arith in
-              let t = t_key k l in
-              let h : i < blocks_in dir k = omega (arith, ap (λ c. c.blocks) t) in
-              omega (arith, marks.0.1 k i l h, ap (λ (c : Chain). walk (next_in new) i c.first) t, walk_key k i l h))
-        ]
+    within k i kl il = grind (arith, common_steps, unmarked.0 i, marks.0.1 k i, walk_key k i)
 
     two_free : (i m : ℕ) → i < free.blocks → m < free.blocks → walk (next_in new) i free.first ≡ walk (next_in new) m free.first → i ≡ m
-    two_free i m il ml e =
-        elim (cases_order i m) [
-          | inl q ↦ q
-          | inr o ↦ elim o [ inl l ↦ (let r = unmarked.1 i m l ml in absurd (omega arith)) | inr l ↦ (let r = unmarked.1 m i l il in absurd (omega arith)) ]
-        ]
+    two_free i m il ml e = grind (arith, common_steps, unmarked.1 i m, unmarked.1 m i)
 
     key_free : (k i m : ℕ) → k < key_count → i < blocks_in dir k → m < free.blocks → walk (next_in new) i (first_in dir k) ≡ walk (next_in new) m free.first → ⊥
-    key_free k i m kl il ml e = both_ways _ (unmarked.0 m ml).1 (ap (seen_in old) (sym e ∙ walk_key k i kl il) ∙ (marks.1 k i kl il).0)
+    key_free k i m kl il ml e = grind (arith, common_steps, unmarked.0 m, walk_key k i, marks.1 k i)
 
     apart : (j k i m : ℕ) → j < chain_count → k < chain_count → i < blocks_in tdir j → m < blocks_in tdir k → walk (next_in new) i (first_in tdir j) ≡ walk (next_in new) m (first_in tdir k) → (j ≡ k) × (i ≡ m)
-    apart j k i m jl kl il ml e =
-        elim (cases_eq j key_count) [
-          | inl q ↦ (
-              let t : chain_at tdir j ≡ free = ap (chain_at tdir) q ∙ t_free in
-              elim (cases_eq k key_count) [
-                | inl r ↦ (
-                    let u : chain_at tdir k ≡ free = ap (chain_at tdir) r ∙ t_free in
-                    (q ∙ sym r, two_free i m (omega (arith, ap (λ c. c.blocks) t)) (omega (arith, ap (λ c. c.blocks) u)) (ap (λ (c : Chain). walk (next_in new) i c.first) (sym t) ∙ e ∙ ap (λ (c : Chain). walk (next_in new) m c.first) u)))
-                | inr a ↦ (
-                    let l : k < key_count = omega arith in
-                    let u = t_key k l in
-                    absurd (key_free k m i l (omega (arith, ap (λ c. c.blocks) u)) (omega (arith, ap (λ c. c.blocks) t)) (ap (λ (c : Chain). walk (next_in new) m c.first) (sym u) ∙ sym e ∙ ap (λ (c : Chain). walk (next_in new) i c.first) t)))
-              ])
-          | inr a ↦ (
-              let l : j < key_count = omega arith in
-              let t = t_key j l in
-              let ih : i < blocks_in dir j = omega (arith, ap (λ c. c.blocks) t) in
-              elim (cases_eq k key_count) [
-                | inl r ↦ (
-                    let u : chain_at tdir k ≡ free = ap (chain_at tdir) r ∙ t_free in
-                    absurd (key_free j i m l ih (omega (arith, ap (λ c. c.blocks) u)) (ap (λ (c : Chain). walk (next_in new) i c.first) (sym t) ∙ e ∙ ap (λ (c : Chain). walk (next_in new) m c.first) u)))
-                | inr b ↦ (
-                    let r : k < key_count = omega arith in
-                    let u = t_key k r in
-                    let mh : m < blocks_in dir k = omega (arith, ap (λ c. c.blocks) u) in
-                    marks.0.2 j k i m l r ih mh (sym (walk_key j i l ih) ∙ ap (λ (c : Chain). walk (next_in new) i c.first) (sym t) ∙ e ∙ ap (λ (c : Chain). walk (next_in new) m c.first) u ∙ walk_key k m r mh))
-              ])
-        ]
+    apart j k i m jl kl il ml e = grind (arith, common_steps, two_free i m, key_free j i m, key_free k m i, marks.0.2 j k i m, walk_key j i, walk_key k m)
 
     pub taken_kept : Kept tdir new
     taken_kept = (
@@ -140,5 +97,4 @@ same_files dir bs new same =
 
 -- no image is whole and damaged
 pub not_both : (dir : List Chain) (bs : List Block) (k : ℕ) → Whole dir bs → Damaged dir bs k → ⊥
-not_both dir bs k whole bad =
-    bad.2 ((λ j l. whole.0 j (omega (arith, bad.0))), (λ j i l h. whole.1 j i (omega (arith, bad.0)) h), λ j l i n a b h g e. whole.2 j l i n (omega (arith, bad.0)) (omega (arith, bad.0)) h g e)
+not_both dir bs k whole bad = grind (arith, common_steps)

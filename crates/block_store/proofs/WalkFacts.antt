@@ -97,38 +97,6 @@ module _
         let q = apart a.0 b.0 a.1 b.1 a.2 b.2 a.3 b.3 (sym a.4 ∙ e ∙ b.4) in
         one_source f t j i k m b.0 b.1 ne (subst (λ (x : ℕ). Source f t j i x b.1) q.0 (subst (λ (y : ℕ). Source f t j i a.0 y) q.1 a.5)) b.5
 
--- the chain of `from` becomes that of `to`
-module _
-    (nx hd hd' n n' : ℕ → ℕ) (N f t : ℕ)
-    (within : Within nx hd n N) (apart : Apart nx hd n)
-    (fl : f < chain_count) (n-f : n' f ≡ 0) (hd-t : hd' t ≡ hd f) (n-t : n' t ≡ n f)
-    (hd-o : (k : ℕ) → k < chain_count → (k ≡ f → ⊥) → (k ≡ t → ⊥) → hd' k ≡ hd k) (n-o : (k : ℕ) → k < chain_count → (k ≡ f → ⊥) → (k ≡ t → ⊥) → n' k ≡ n k)
-  where
-    abbrev Was : ℕ → ℕ → Type 0
-    Was k i = (j : ℕ) × (j < chain_count) × (i < n j) × (hd' k ≡ hd j) × (((k ≡ t) × (j ≡ f)) ⊎ ((k ≡ f → ⊥) × (k ≡ t → ⊥) × (j ≡ k)))
-
-    was : (k i : ℕ) → k < chain_count → i < n' k → Was k i
-    was k i l h =
-        elim (cases_eq k t) [
-          | inl e ↦ (f, fl, omega (arith, ap n' e), ap hd' e ∙ hd-t, inl (e, refl))
-          | inr a ↦ elim (cases_eq k f) [
-            | inl e ↦ absurd (omega (arith, ap n' e))
-            | inr b ↦ (k, l, omega (arith, n-o k l b a), hd-o k l b a, inr (b, a, refl))
-          ]
-        ]
-
-    pub rename_within : Within nx hd' n' N
-    rename_within k i l h = let w = was k i l h in subst (λ (x : ℕ). walk nx i x < N) (sym w.3) (within w.0 i w.1 w.2)
-
-    pub rename_apart : Apart nx hd' n'
-    rename_apart j k i m jl kl hi hm e =
-        let a = was j i jl hi in
-        let b = was k m kl hm in
-        let q = apart a.0 b.0 i m a.1 b.1 a.2 b.2 (sym (ap (walk nx i) a.3) ∙ e ∙ ap (walk nx m) b.3) in
-        let u = a.4 in
-        let v = b.4 in
-        (omega (arith, q.0), q.1)
-
 pub walk_more : (nx : ℕ → ℕ) (i p : ℕ) → walk nx (suc i) p ≡ nx (walk nx i p)
 walk_more nx zero p = refl
 walk_more nx (suc i) p = walk_more nx i (nx p)

@@ -4,7 +4,6 @@ use Rattle.store.specs.Files.{File, Files, key_count, longest, cost}
 use Rattle.block_store.specs.Walks.{chain_count, content, Within, Apart}
 use Rattle.block_store.specs.declared.cells.Block.{Block}
 use Rattle.block_store.specs.declared.cells.Chain.{Chain}
-use Rattle.block_store.specs.declared.chains.Chains.{Chains}
 
 abbrev pub blank : Block
 blank = record { next = 0; seen = false; words = [] }
@@ -50,29 +49,9 @@ Linked dir bs =
 abbrev pub Full : Chain → Type 0
 Full e = 0 < e.blocks → (e.blocks ≡ cost 4 e.len) × (e.len ≤ longest)
 
+abbrev pub AllFull : List Chain → Type 0
+AllFull dir = (k : ℕ) → k < key_count → Full (chain_at dir k)
+
+-- What holds of a store between calls.
 abbrev pub Kept : List Chain → List Block → Type 0
-Kept dir bs = Linked dir bs × ((k : ℕ) → k < key_count → Full (chain_at dir k))
-
--- The same of the store's memory.
-abbrev pub LinkedIn : Chains → Type 0
-LinkedIn c = Linked c.dir.now c.blocks.now
-
-abbrev pub Sound : Chains → Type 0
-Sound c = Kept c.dir.now c.blocks.now
-
-abbrev pub files_in : Chains → Files
-files_in c = chain_files c.dir.now c.blocks.now
-
-abbrev pub chain_of : Chains → ℕ → Chain
-chain_of c k = chain_at c.dir.now k
-
-abbrev pub content_of : Chains → ℕ → List ℕ
-content_of c k = chain_content c.blocks.now (chain_of c k)
-
--- chain j, and what it holds, is in c as it is in d
-abbrev pub Same : Chains → Chains → ℕ → Type 0
-Same c d j = (chain_of c j ≡ chain_of d j) × (chain_file c.blocks.now (chain_of c j) ≡ chain_file d.blocks.now (chain_of d j))
-
--- every block is one unit
-abbrev pub units_in : Chains → ℕ
-units_in c = length c.blocks.now
+Kept dir bs = Linked dir bs × AllFull dir

@@ -1,3 +1,4 @@
 pub mod Walks
 pub mod Chained
+pub mod Lent
 pub mod Taking

@@ -1,16 +1,18 @@
 ghost use Rattle.std.specs.Prelude.{◌≡◌, ℕ, ◌+◌, ◌<◌, ◌≤◌, length, replicate, None, MatchOption};
 ghost use Rattle.std.proofs.Common.{lit≤};
+ghost use Rattle.std.proofs.Props.{props};
 ghost use Rattle.store.specs.Files.{key_count, used};
-ghost use Rattle.block_store.specs.Chained.{Kept, Sound, chain_files, files_in, units_in, none, next_in, words_in};
-ghost use Rattle.block_store.specs.Taking.{Whole, Damaged, Untouched};
 ghost use Rattle.block_store.specs.Walks.{chain_count};
+ghost use Rattle.block_store.specs.Chained.{AllFull, Kept, chain_files, next_in, words_in};
+ghost use Rattle.block_store.specs.Lent.{files_in, units_in};
+ghost use Rattle.block_store.specs.Taking.{Whole, Damaged, Untouched};
 
-use crate::calls::FREE;
-use crate::cells::{Block, Chain};
+use crate::calls::{FREE, blocks_for, front};
+use crate::cells::{Block, Chain, WIDTH};
 use crate::chains::Chains;
 use crate::taking::{chain_free, look_through};
 use store::api::Store;
-use store::keys::KEYS;
+use store::keys::{KEYS, LONGEST};
 
 // How many chains a caller lends: one for each key, and that of the free blocks.
 pub const CHAINS: usize = KEYS + 1;
@@ -19,15 +21,13 @@ pub const CHAINS: usize = KEYS + 1;
 #[derive(Drop)]
 pub struct BlockStore<'a> {
     chains: Chains<'a>,
-    ghost sound: { ∥ Sound chains ∥₁ },
+    ghost full: { AllFull chains.dir.now } by { Prim.hlevel props },
     ghost keys: { length (files_in chains) ≡ key_count },
     ghost room: { used 4 (files_in chains) ≤ units_in chains },
 }
 
 impl<'a> Store for BlockStore<'a> {
-    const BLOCK: usize = 4;
-
-    ghost block = { 4 };
+    ghost BLOCK = { 4 };
 
     ghost units = { λ s. units_in s.chains };
 
@@ -42,40 +42,49 @@ impl<'a> Store for BlockStore<'a> {
     fn block_len() -> usize
         ensures { result ≡ 4 }
     {
-        Self::BLOCK
+        WIDTH
     }
 
     fn put(&mut self, key: usize, words: &[u32]) -> bool {
-        self.chains.put(key, words)
+        if words.len() > LONGEST || key >= KEYS {
+            return false;
+        }
+        let missing = blocks_for(words.len()).saturating_sub(self.chains.dir[key].blocks);
+        if missing > self.chains.dir[FREE].blocks {
+            return false;
+        }
+        self.chains.free(key);
+        self.chains.fill(key, words);
+        true
     }
 
     fn carry(&mut self, from: usize, to: usize) {
-        self.chains.carry(from, to)
+        if self.chains.chain(from).is_some() && to < KEYS && from != to {
+            self.chains.free(to);
+            self.chains.rename(from, to);
+        }
     }
 
     fn clear(&mut self, key: usize) {
-        self.chains.clear(key)
-    }
-
-    fn held(&self, key: usize) -> bool {
-        self.chains.length(key).is_some()
+        if key < KEYS {
+            self.chains.free(key);
+        }
     }
 
     fn length(&self, key: usize) -> Option<usize> {
-        self.chains.length(key)
+        Some(self.chains.chain(key)?.len)
     }
 
     fn part(&self, key: usize, at: usize) -> &[u32] {
-        self.chains.part(key, at)
-    }
-}
-
-// No chain has a block.
-fn empty_all(dir: &mut [Chain])
-    ensures { dir.new ≡ replicate (length dir.old) none }
-{
-    for i in 0..dir.len() {
-        dir[i] = Chain::EMPTY;
+        let Some(chain) = self.chains.chain(key) else {
+            return &[];
+        };
+        if at >= chain.blocks {
+            return &[];
+        }
+        let rest = chain.len - WIDTH * at;
+        let block = self.chains.block(key, at);
+        front(self.chains.blocks, block, rest.min(WIDTH))
     }
 }
 
@@ -84,33 +93,37 @@ fn link_all(blocks: &mut [Block])
     ensures next { (p : ℕ) → p < length blocks.new → next_in blocks.new p ≡ p + 1 }
     ensures wide { (p : ℕ) → p < length blocks.new → length (words_in blocks.new p) ≡ 4 }
 {
-    for i in 0..blocks.len() {
-        blocks[i] = Block {
+    for (i, block) in blocks.iter_mut().enumerate() {
+        *block = Block {
             next: i + 1,
-            seen: false,
-            words: [0; 4],
+            ..Block::BLANK
         };
     }
 }
 
+// No key has a chain, and all blocks are free.
+fn empty(dir: &mut [Chain; CHAINS], blocks: &mut [Block])
+    ensures kept { Kept dir.new blocks.new }
+    ensures files { chain_files dir.new blocks.new ≡ replicate key_count None }
+{
+    dir.fill(Chain::EMPTY);
+    link_all(blocks);
+    dir[FREE] = Chain {
+        blocks: blocks.len(),
+        ..Chain::EMPTY
+    };
+}
+
 // Chains the free blocks of a whole image; a damaged one is emptied first.
-fn settle(dir: &mut [Chain], blocks: &mut [Block])
-    requires { length dir.old ≡ chain_count }
-    ensures sound { Kept dir.new blocks.new }
+fn settle(dir: &mut [Chain; CHAINS], blocks: &mut [Block])
+    ensures kept { Kept dir.new blocks.new }
     ensures whole { Whole dir.old blocks.old → chain_files dir.new blocks.new ≡ chain_files dir.old blocks.old }
     ensures damaged { (k : ℕ) → Damaged dir.old blocks.old k → chain_files dir.new blocks.new ≡ replicate key_count None }
 {
-    if let Some(_) = look_through(dir, blocks) {
-        empty_all(dir);
-        link_all(blocks);
-        dir[FREE] = Chain {
-            first: 0,
-            blocks: blocks.len(),
-            len: 0,
-        };
-        return;
+    match look_through(dir, blocks) {
+        Some(_) => empty(dir, blocks),
+        None => dir[FREE] = chain_free(blocks),
     }
-    dir[FREE] = chain_free(blocks);
 }
 
 impl<'a> BlockStore<'a> {
@@ -119,13 +132,7 @@ impl<'a> BlockStore<'a> {
         ensures files { files_in result.chains ≡ replicate key_count None }
         ensures units { units_in result.chains ≡ length blocks.old }
     {
-        empty_all(dir);
-        link_all(blocks);
-        dir[KEYS] = Chain {
-            first: 0,
-            blocks: blocks.len(),
-            len: 0,
-        };
+        empty(dir, blocks);
         BlockStore {
             chains: Chains { dir, blocks },
         }

@@ -1,10 +1,10 @@
-ghost use Rattle.std.specs.Prelude.{◌≡◌, ℕ, ◌<◌, true, false, length, IfNone, count_by, MatchOption};
+ghost use Rattle.std.specs.Prelude.{◌≡◌, ℕ, ◌<◌, ◌↔◌, IsTrue, true, false, length, IfNone, count_by, MatchOption};
 ghost use Rattle.store.specs.Files.{key_count};
-ghost use Rattle.block_store.specs.Walks.{chain_count};
 ghost use Rattle.block_store.specs.Chained.{next_in, words_in, Full};
 ghost use Rattle.block_store.specs.Taking.{Whole, Damaged, seen_in, unseen, Fresh, Marked, Untouched, Marks, Unmarked};
 
-use crate::calls::{WIDTH, blocks_for, front};
+use crate::blocks::CHAINS;
+use crate::calls::blocks_for;
 use crate::cells::{Block, Chain};
 use store::keys::{KEYS, LONGEST};
 
@@ -12,32 +12,16 @@ fn unmark(blocks: &mut [Block])
     ensures seen { (q : ℕ) → seen_in blocks.new q ≡ false }
     ensures same { Untouched blocks.new blocks.old }
 {
-    for i in 0..blocks.len() {
-        blocks[i].seen = false;
+    for block in blocks.iter_mut() {
+        block.seen = false;
     }
 }
 
 // Whether a chain has the blocks that its words want.
 fn full(chain: Chain) -> bool
-    ensures yes { result ≡ true → Full chain }
-    ensures no { result ≡ false → Full chain → ⊥ }
+    ensures { IsTrue result ↔ Full chain }
 {
-    if chain.blocks == 0 {
-        return true;
-    }
-    if chain.len > LONGEST {
-        return false;
-    }
-    chain.blocks == blocks_for(chain.len)
-}
-
-fn all_words(blocks: &[Block], block: usize) -> &[u32]
-    requires { block < length blocks.now }
-    ensures words { result.now ≡ words_in blocks.now block }
-    ensures long { length result.now ≡ 4 }
-{
-    let b = &blocks[block];
-    &b.words
+    chain.blocks == 0 || chain.len <= LONGEST && chain.blocks == blocks_for(chain.len)
 }
 
 // The block that goes on. A block always has its four words.
@@ -46,23 +30,20 @@ fn after(blocks: &[Block], block: usize) -> usize
     ensures next { result ≡ next_in blocks.now block }
     ensures wide { length (words_in blocks.now block) ≡ 4 }
 {
-    let _words = all_words(blocks, block);
-    blocks[block].next
+    let b = &blocks[block];
+    let _words: &[u32] = &b.words;
+    b.next
 }
 
 // Marks the blocks of a chain; false where one is not there, or has a mark already.
 fn mark(blocks: &mut [Block], chain: Chain) -> bool
     ensures same { Untouched blocks.new blocks.old }
-    ensures fresh { result ≡ true → Fresh blocks.old chain.blocks chain.first }
-    ensures stale { result ≡ false → Fresh blocks.old chain.blocks chain.first → ⊥ }
-    ensures marks { result ≡ true → Marked blocks.old blocks.new chain.blocks chain.first }
+    ensures fresh { IsTrue result ↔ Fresh blocks.old chain.blocks chain.first }
+    ensures marks { IsTrue result → Marked blocks.old blocks.new chain.blocks chain.first }
 {
     let mut block = chain.first;
-    for i in 0..chain.blocks {
-        if block >= blocks.len() {
-            return false;
-        }
-        if blocks[block].seen {
+    for _ in 0..chain.blocks {
+        if block >= blocks.len() || blocks[block].seen {
             return false;
         }
         blocks[block].seen = true;
@@ -72,19 +53,17 @@ fn mark(blocks: &mut [Block], chain: Chain) -> bool
 }
 
 // The first key whose chain is damaged. Chains and files stay as they are, and the marks tell the blocks that no file has.
-pub(crate) fn look_through(dir: &[Chain], blocks: &mut [Block]) -> Option<usize>
-    requires { length dir.now ≡ chain_count }
+pub(crate) fn look_through(dir: &[Chain; CHAINS], blocks: &mut [Block]) -> Option<usize>
     ensures found { MatchOption result (Whole dir.now blocks.old) (Damaged dir.now blocks.old) }
     ensures marks { IfNone result (Marks dir.now blocks.new key_count) }
     ensures same { Untouched blocks.new blocks.old }
 {
     unmark(blocks);
-    for k in 0..KEYS {
-        let chain = dir[k];
-        if !full(chain) {
+    for (k, chain) in dir[..KEYS].iter().enumerate() {
+        if !full(*chain) {
             return Some(k);
         }
-        if !mark(blocks, chain) {
+        if !mark(blocks, *chain) {
             return Some(k);
         }
     }
@@ -98,23 +77,17 @@ pub(crate) fn chain_free(blocks: &mut [Block]) -> Chain
     ensures free { Unmarked blocks.old blocks.new result.first result.blocks }
     ensures count { result.blocks ≡ count_by unseen blocks.old }
 {
-    let mut first = 0;
-    let mut count = 0;
-    for p in 0..blocks.len() {
-        if blocks[p].seen {
+    let mut free = Chain::EMPTY;
+    for (p, block) in blocks.iter_mut().enumerate() {
+        if block.seen {
             continue;
         }
-        blocks[p] = Block {
-            next: first,
-            seen: false,
-            words: [0; 4],
+        *block = Block {
+            next: free.first,
+            ..Block::BLANK
         };
-        first = p;
-        count += 1;
+        free.first = p;
+        free.blocks += 1;
     }
-    Chain {
-        first,
-        blocks: count,
-        len: 0,
-    }
+    free
 }

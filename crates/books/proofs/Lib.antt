@@ -1,3 +1,5 @@
-pub mod Removals
 pub mod Disowns
+pub mod Notes
 pub mod Ownings
+pub mod Removals
+pub mod Surveys

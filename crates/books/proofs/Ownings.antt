@@ -8,7 +8,8 @@ use Rattle.status.specs.declared.rows.Owned.{Owned}
 use Rattle.status.specs.Tables.{owner_of}
 use Rattle.table.specs.Order.{meets}
 use Rattle.table.specs.Rows.{Only}
-use Rattle.steps.specs.Wares.{Ware, one_if, Distinct}
+use Rattle.package.specs.Wares.{Ware}
+use Rattle.steps.specs.Wares.{one_if, Distinct}
 use Rattle.steps.specs.Goods.{carried_at}
 use Rattle.steps.proofs.Restores.{Apart}
 use Rattle.books.specs.Changes.{owners_in, Put}
@@ -56,34 +57,58 @@ law_more name x xs old mid apart law q =
     go true e = ap (λ (o : Option Ware). owned_by name o (Some (record { path = x.path; owner = name; kind = x.kind }))) (apart_none q x.path xs e apart)
     go false e = refl
 
-pub owned_more : (name : ShortText) (x : Ware) (xs ys : List Ware) (places : ℕ) (old mid new : List Owned) (r : Bool) → ys ≡ x ∷ xs → Distinct ys
-    → length old + fresh_count (owners_in old) ys ≤ places
-    → Put ltb (λ o. o.path) (record { path = x.path; owner = name; kind = x.kind }) places old r mid
-    → (Distinct xs → length mid + fresh_count (owners_in mid) xs ≤ places → FilesOwned name xs mid new)
-    → FilesOwned name ys old new
-owned_more name x xs ys places old mid new r e d fits put rest =
-    subst (λ (zs : List Ware). FilesOwned name zs old new) (sym e)
-    (go (subst Distinct e d) (subst (λ (zs : List Ware). length old + fresh_count (owners_in old) zs ≤ places) e fits))
-  where
-    go : Distinct (x ∷ xs) → length old + fresh_count (owners_in old) (x ∷ xs) ≤ places → FilesOwned name (x ∷ xs) old new
-    go apart room =
-        let row : Owned = record { path = x.path; owner = name; kind = x.kind } in
-        let there = is_some (owner_of x.path old) in
-        let after = fresh_count (owners_in mid) xs in
-        let t : r ≡ true = put.told ∙ room_for_one there (length old) (fresh_count (owners_in old) xs) places room in
-        let f = fresh_apart x.path (Some row) (owners_in old) (owners_in mid) xs (put.law t) apart.0 in
-        let n = one_more there (length mid) (length mid + after) after (length old) (put.count t) refl in
-        let rests = rest apart.1 (omega arith) in
-        let counted = rests.count in
-        let law : (q : ℕ) → owner_of q new ≡ owned_by name (carried_at q (x ∷ xs)) (owner_of q old)
-        = λ q. rests.law q ∙ law_more name x xs old mid apart.0 (put.law t) q in
-        record { law = law; view = fun_ext law; count = omega arith }
+-- one file more: what is left to own still has room, and owning it owns both
+module _ (name : ShortText) (x : Ware) (xs ys : List Ware) (places : ℕ) (old mid : List Owned) (r : Bool) (e : ys ≡ x ∷ xs) (d : Distinct ys)
+    (fits : length old + fresh_count (owners_in old) ys ≤ places) (put : Put ltb (λ o. o.path) (record { path = x.path; owner = name; kind = x.kind }) places old r mid) where
+  apart : Distinct (x ∷ xs)
+  apart = subst Distinct e d
 
--- the files that the reader hands out are those of the words
-pub owned_read : (name : ShortText) (xs ys : List Ware) (room places : ℕ) (old new : List Owned) → xs ≡ ys → room ≡ places → Distinct ys
+  abbrev there : Bool
+  there = is_some (owner_of x.path old)
+
+  room : length old + (one_if (not there) + fresh_count (owners_in old) xs) ≤ places
+  room = subst (λ (zs : List Ware). length old + fresh_count (owners_in old) zs ≤ places) e fits
+
+  taken : r ≡ true
+  taken = put.told ∙ room_for_one there (length old) (fresh_count (owners_in old) xs) places room
+
+  fresh_same : fresh_count (owners_in mid) xs ≡ fresh_count (owners_in old) xs
+  fresh_same = fresh_apart x.path (Some (record { path = x.path; owner = name; kind = x.kind })) (owners_in old) (owners_in mid) xs (put.law taken) apart.0
+
+  counted : length mid + fresh_count (owners_in mid) xs ≡ length old + (one_if (not there) + fresh_count (owners_in mid) xs)
+  counted = one_more there (length mid) _ _ (length old) (put.count taken) refl
+
+  pub owned_room : length mid + fresh_count (owners_in mid) xs ≤ places
+  owned_room =
+      let c = counted in
+      let f = fresh_same in
+      let k = room in
+      omega arith
+
+  pub owned_more : (new : List Owned) → FilesOwned name xs mid new → FilesOwned name ys old new
+  owned_more new rest =
+      let law : (q : ℕ) → owner_of q new ≡ owned_by name (carried_at q (x ∷ xs)) (owner_of q old)
+      = λ q. rest.law q ∙ law_more name x xs old mid apart.0 (put.law taken) q in
+      let n = rest.count in
+      let c = counted in
+      let f = fresh_same in
+      let total : length new ≡ length old + (one_if (not there) + fresh_count (owners_in old) xs) = omega arith in
+      subst (λ (zs : List Ware). FilesOwned name zs old new) (sym e) (record { law = law; view = fun_ext law; count = total })
+
+-- so far: what is left to own has room, and owning it owns all
+pub record Onwards (name : ShortText) (all rest : List Ware) (places : ℕ) (start now : List Owned) : Type 0 where
+  pub room : length now + fresh_count (owners_in now) rest ≤ places
+  pub last : (new : List Owned) → FilesOwned name rest now new → FilesOwned name all start new
+
+pub owned_end : (name : ShortText) (xs : List Ware) (old : List Owned) → xs ≡ [] → FilesOwned name xs old old
+owned_end name xs old e =
+    let n : length old ≡ length old + 0 = omega arith in
+    subst (λ (zs : List Ware). FilesOwned name zs old old) (sym e) (record { law = λ q. refl; view = refl; count = n })
+
+pub owned_as : (name : ShortText) (xs ys : List Ware) (room places : ℕ) (old new : List Owned) → xs ≡ ys → room ≡ places
     → length old + fresh_count (owners_in old) ys ≤ places
-    → (Distinct xs → length old + fresh_count (owners_in old) xs ≤ room → FilesOwned name xs old new)
+    → (length old + fresh_count (owners_in old) xs ≤ room → FilesOwned name xs old new)
     → FilesOwned name ys old new
-owned_read name xs ys room places old new e r d fits h =
+owned_as name xs ys room places old new e r fits h =
     let f = ap (fresh_count (owners_in old)) e in
-    subst (λ (zs : List Ware). FilesOwned name zs old new) e (h (subst Distinct (sym e) d) (omega arith))
+    subst (λ (zs : List Ware). FilesOwned name zs old new) e (h (omega arith))

@@ -7,7 +7,8 @@ use Rattle.status.specs.declared.rows.Owned.{Owned}
 use Rattle.status.specs.Tables.{owner_of}
 use Rattle.steps.specs.declared.path_set.PathSet.{PathSet}
 use Rattle.steps.specs.Owners.{member, same_name}
-use Rattle.steps.specs.Wares.{Ware, one_if}
+use Rattle.package.specs.Wares.{Ware}
+use Rattle.steps.specs.Wares.{one_if}
 use Rattle.steps.specs.Goods.{carried_at}
 use Rattle.books.specs.declared.survey.Survey.{Survey}
 use Rattle.books.specs.Ledger.{Ledger}

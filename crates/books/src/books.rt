@@ -1,24 +1,18 @@
-ghost use Rattle.std.specs.Prelude.{◌≡◌, ◌≤◌, length, nat_lt};
-ghost use Rattle.table.specs.Order.{by_bytes};
-ghost use Rattle.table.specs.Answers.{room, Sorted};
+ghost use Rattle.std.specs.Prelude.{◌≡◌};
+ghost use Rattle.table.specs.Answers.{room};
 ghost use Rattle.books.specs.Limits.{records_most, owners_most};
 
-use host::Line;
+use host::Trace;
 use status::{Owned, Record};
 use table::Table;
 
 // The records of packages by name, the owners of paths by path, and the trace of script calls, over lent memory.
-// Their order and their rooms are part of the type, so that no call on them asks anything of its caller.
+// Their rooms are part of the type, so that no call on them asks anything of its caller.
 #[derive(Drop)]
 pub struct Books<'a> {
     pub(crate) records: Table<'a, Record>,
     pub(crate) owners: Table<'a, Owned>,
-    pub(crate) trace: &'a mut [Line],
-    // how many lines of the trace are written
-    pub(crate) used: usize,
-    ghost ranked: { Sorted by_bytes (λ r. r.name) records },
-    ghost listed: { Sorted nat_lt (λ o. o.path) owners },
-    ghost fits: { used ≤ length trace.now },
+    pub(crate) trace: Trace<'a>,
     ghost places: { room records ≡ records_most },
     ghost paths: { room owners ≡ owners_most },
 }

@@ -18,19 +18,14 @@ impl<'a> Books<'a> {
     {
         self.records.clear();
         self.owners.clear();
-        self.used = 0;
+        self.trace.clear();
     }
 
     // One line more; false where the trace is full.
     pub fn note(&mut self, line: Line) -> bool
         ensures { NotedLine line (ledger self.old) result (ledger self.new) }
     {
-        if self.used >= self.trace.len() {
-            return false;
-        }
-        self.trace[self.used] = line;
-        self.used += 1;
-        true
+        self.trace.add(line).is_ok()
     }
 
     // The record of its name is this one from now on; false where no record has the name and none can come in.

@@ -4,7 +4,6 @@
 mod books;
 mod changes;
 mod disowning;
-mod kinds;
 mod lookups;
 mod owning;
 mod rows;

@@ -7,7 +7,7 @@ ghost use Rattle.books.specs.Ledger.{ledger};
 
 use crate::books::Books;
 use base::ShortText;
-use host::Line;
+use host::{Line, Trace};
 use status::{Owned, Record};
 use table::Table;
 
@@ -26,8 +26,7 @@ impl<'a> Books<'a> {
         Books {
             records: Table::empty(records),
             owners: Table::empty(owners),
-            trace,
-            used: 0,
+            trace: Trace::new(trace),
         }
     }
 
@@ -51,7 +50,7 @@ impl<'a> Books<'a> {
     pub fn lines(&self) -> &[Line]
         ensures { result.now ≡ (ledger self.now).lines }
     {
-        &self.trace[0..self.used]
+        self.trace.lines()
     }
 
     // The record of a package.
@@ -72,7 +71,7 @@ impl<'a> Books<'a> {
     pub fn free_lines(&self) -> usize
         ensures { length (ledger self.now).lines + result ≡ (ledger self.now).space }
     {
-        self.trace.len() - self.used
+        self.trace.free()
     }
 
     // How many packages more can have a record.

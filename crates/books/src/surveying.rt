@@ -1,19 +1,16 @@
-ghost use Rattle.std.specs.Prelude.{◌≡◌, ◌-◌, ◌≤◌, not, length, is_some};
-ghost use Rattle.package.specs.Items.{left_from};
-ghost use Rattle.package.specs.Readings.{Reading};
-ghost use Rattle.steps.specs.Wares.{wares, one_if, Ready};
+ghost use Rattle.std.specs.Prelude.{◌≡◌, ◌≤◌, not, is_some};
+ghost use Rattle.steps.specs.Wares.{one_if};
 ghost use Rattle.steps.specs.Goods.{goods_in};
 ghost use Rattle.books.specs.Ledger.{ledger};
 ghost use Rattle.books.specs.Changes.{owners_in};
 ghost use Rattle.books.specs.Owners.{foreign_at, differs_at, Surveyed};
 
 use crate::books::Books;
-use crate::kinds::same_kind;
 use crate::survey::Survey;
 use base::{FileKind, ShortText};
-use package::{Items, Package};
+use package::Package;
 use status::Owned;
-use steps::{next_file, same_name};
+use steps::same_name;
 
 // What the owner of one path says.
 fn survey_one(owner: Option<Owned>, name: ShortText, kind: FileKind) -> Survey
@@ -25,7 +22,7 @@ fn survey_one(owner: Option<Owned>, name: ShortText, kind: FileKind) -> Survey
     match owner {
         Some(row) => Survey {
             foreign: !same_name(row.owner, name),
-            differing: !same_kind(row.kind, kind),
+            differing: row.kind != kind,
             fresh: 0,
         },
         None => Survey {
@@ -37,31 +34,21 @@ fn survey_one(owner: Option<Owned>, name: ShortText, kind: FileKind) -> Survey
 }
 
 impl<'a> Books<'a> {
-    // What the owners say of the files from here on.
-    fn survey_from(&self, name: ShortText, files: Items<'_>) -> Survey
-        ensures few { result.fresh ≤ length files.entry.words.now - files.entry.place }
-        ensures surveyed { Ready files.entry → Surveyed name (owners_in (ledger self.now).owners) (wares 0 (left_from files.entry)) result }
-    {
-        let Some(file) = next_file(&files) else {
-            return Survey {
-                foreign: false,
-                differing: false,
-                fresh: 0,
-            };
-        };
-        let here = survey_one(self.owner(file.path), name, file.kind);
-        let rest = self.survey_from(name, file.rest);
-        Survey {
-            foreign: here.foreign | rest.foreign,
-            differing: here.differing | rest.differing,
-            fresh: here.fresh + rest.fresh,
-        }
-    }
-
     // What the owners say of the package's files.
-    pub fn survey(&self, name: ShortText, new: &Package, words: &[u32]) -> Survey
-        ensures { Reading words.now new.now → Surveyed name (owners_in (ledger self.now).owners) (goods_in words.now).files result }
+    pub fn survey(&self, name: ShortText, new: &Package<'_>) -> Survey
+        ensures { Surveyed name (owners_in (ledger self.now).owners) (goods_in new.now.words.now).files result }
     {
-        self.survey_from(name, new.files(words))
+        let mut survey = Survey {
+            foreign: false,
+            differing: false,
+            fresh: 0,
+        };
+        for file in new.files() {
+            let here = survey_one(self.owner(file.path), name, file.kind);
+            survey.foreign |= here.foreign;
+            survey.differing |= here.differing;
+            survey.fresh += here.fresh;
+        }
+        survey
     }
 }

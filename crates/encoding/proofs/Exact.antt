@@ -1,5 +1,6 @@
 -- Words without a fault are the encoding of the package, or of the name, that stands in them.
-use Rattle.std.proofs.Common.{◌≡◌, ℕ, ◌+◌, ◌-◌, Bool, true, false, cond, ◌&&◌, eqb, leb, List, [], ◌∷◌, ◌++◌, length, Some, None, Decides, sym, refl, ap, ◌∙◌, subst, ap₂, append-nil, le_refl, arith}
+use Rattle.std.proofs.Common.{◌≡◌, ℕ, ◌+◌, ◌-◌, Bool, true, false, cond, ◌&&◌, eqb, leb, List, [], ◌∷◌, ◌++◌, length, Some, None, Ok, Err, Result, Decides, sym, refl, ap, ◌∙◌, subst, ap₂, append-nil, le_refl, arith}
+use Rattle.std.specs.Prelude.{is_ok, MatchResult}
 use Rattle.std.proofs.lemmas.Bool.{and_from, and_parts, eqb-true, both_ways}
 use Rattle.base.specs.declared.reasons.Reason.TheVariants.{EndsEarly, WrongWord, OutsideLimits}
 use Rattle.base.specs.declared.reasons.Refusal.{Refusal}
@@ -12,7 +13,7 @@ use Rattle.package.specs.declared.rules.TextRule.TheVariants.{Spelled}
 use Rattle.package.specs.Words.{bytes, is_head, name_length, version_length}
 use Rattle.package.specs.Checks.{Due, package_head, name_head, text, item, nothing}
 use Rattle.package.specs.Packages.{Carried, Contents, Within, text_words, head_word, encoded, name_encoded, text_in, behind_text, files_in, name_in, version_in, package_in}
-use Rattle.package.specs.Readings.{package_refusal, name_refusal}
+use Rattle.package.specs.Accepted.{package_refusal, name_refusal}
 use Rattle.package.proofs.Tests.{some_none, must_none, refusal_none}
 use Rattle.encoding.specs.Laws.{PackageWords, NameWords}
 use Rattle.encoding.proofs.Made.{head_made}
@@ -117,3 +118,9 @@ name_yes words h = (λ t. (name_in words, (name_exact words h).0, (name_exact wo
 pub name_no : (words : List ℕ) (refused : Refusal) → name_refusal words ≡ Some refused → Decides false (NameWords words)
 name_no words refused h =
     (λ t. absurd (both_ways false refl t), λ p. some_none refused (sym h ∙ ap name_refusal (sym p.2) ∙ (name_accepted p.0 p.1).0))
+
+-- what a reading answers decides it
+pub by_reading : {X E P : Type 0} {A : X → Type 0} {B : E → Type 0} (r : Result X E) (b : Bool) → b ≡ is_ok r → MatchResult r A B
+    → ((x : X) → A x → Decides true P) → ((e : E) → B e → Decides false P) → Decides b P
+by_reading {P = P} (Ok x) b e h taken lost = subst (λ (t : Bool). Decides t P) (sym e) (taken x h)
+by_reading {P = P} (Err x) b e h taken lost = subst (λ (t : Bool). Decides t P) (sym e) (lost x h)

@@ -10,7 +10,7 @@ use Rattle.package.specs.declared.rules.TextRule.TheVariants.{Spelled}
 use Rattle.package.specs.Words.{is_head, name_length, version_length}
 use Rattle.package.specs.Checks.{Due, package_head, name_head, text, item, nothing, head_fault, fault, next, refusal}
 use Rattle.package.specs.Packages.{Carried, Contents, Fits, Rising, Within, text_words, file_words, end_word, head_word, encoded, name_encoded, text_in, behind_text, files_in, name_in, version_in, package_in}
-use Rattle.package.specs.Readings.{package_refusal, name_refusal}
+use Rattle.package.specs.Accepted.{package_refusal, name_refusal}
 use Rattle.package.proofs.Tests.{must_pass, refusal_on}
 use Rattle.encoding.proofs.Made.{head_is, head_name, head_version}
 use Rattle.encoding.proofs.Ran.{Ran}

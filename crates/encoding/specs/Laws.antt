@@ -4,7 +4,7 @@ use Rattle.std.specs.Prelude.{◌≡◌, ℕ, true, List, None}
 use Rattle.base.specs.declared.texts.TextKind.TheVariants.{Name}
 use Rattle.base.specs.Texts.{allowed}
 use Rattle.package.specs.Packages.{Contents, Within, encoded, name_encoded, package_in, name_in}
-use Rattle.package.specs.Readings.{package_refusal, name_refusal}
+use Rattle.package.specs.Accepted.{package_refusal, name_refusal}
 
 -- words without a fault are the encoding of the package that stands in them, and that is within the rules
 abbrev pub AcceptedIsEncoded : Type 0

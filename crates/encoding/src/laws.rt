@@ -16,18 +16,12 @@ pub fn encoding_law()
 pub fn is_package(words: &[u32]) -> bool
     ensures { Decides result (PackageWords words.now) }
 {
-    match read_package(words) {
-        Ok(_) => true,
-        Err(_) => false,
-    }
+    read_package(words).is_ok()
 }
 
 // Whether these words are a name alone.
 pub fn is_name(words: &[u32]) -> bool
     ensures { Decides result (NameWords words.now) }
 {
-    match read_name(words) {
-        Ok(_) => true,
-        Err(_) => false,
-    }
+    read_name(words).is_ok()
 }

@@ -1,38 +1,35 @@
 -- Rows that tell of a call.
-use Rattle.std.proofs.Common.{◌≡◌, ℕ, Bool, true, false, cond, ◌&&◌, is_some, Some, None, Decides, Option, sym, refl, ap, arith}
-use Rattle.std.specs.Str.{bytes_eq}
-use Rattle.std.proofs.lemmas.Slice.Eq.{bytes_eq-Decides}
-use Rattle.std.proofs.lemmas.Bool.{true≢false, and_from, and_left, and_right}
+use Rattle.std.proofs.Common.{◌≡◌, Bool, true, false, cond, ◌&&◌, is_some, Some, None, Option, sym, refl, ap}
+use Rattle.std.proofs.lemmas.Bool.{and_from, and_left, and_right}
 use Rattle.base.specs.Texts.{name_row, version_row}
 use Rattle.base.specs.declared.texts.ShortText.{ShortText}
-use Rattle.base.specs.declared.name.Name.{Name}
-use Rattle.base.specs.declared.version.Version.{Version}
+use Rattle.base.specs.Named.{Name}
+use Rattle.base.specs.Named.{Version}
 use Rattle.host.specs.declared.calls.Argument.{Argument}
-use Rattle.host.specs.declared.calls.Argument.TheVariants.{Version as with_version}
+use Rattle.host.specs.declared.calls.Argument.TheVariants.{Version as version_of}
 use Rattle.host.specs.declared.calls.Call.{Call}
-use Rattle.host.specs.declared.line.ArgumentRow.TheVariants.{Version as version_of}
 use Rattle.host.specs.declared.line.Line.{Line}
 use Rattle.host.specs.Hosts.{argument_row, line, call_line}
-use Rattle.host.specs.Rows.{sound, sound_argument, argument_if, argument_rows, line_if, same_row}
+use Rattle.host.specs.Rows.{sound, sound_argument, argument_if, argument_rows, line_if}
 
 -- a value that passed its test, and one that did not
 pub passed : {A : Type 0} (b : Bool) (x y : A) → Some x ≡ cond b (Some y) None → (b ≡ true) × (x ≡ y)
 passed true x y e = (refl, cc)
-passed false x y e = let z : ◌≡◌ {A = ℕ} 0 1 = cc in absurd (omega arith)
+passed false x y e = cc
 
 pub failed : {A : Type 0} (b : Bool) (y : A) → None ≡ cond b (Some y) None → b ≡ false
-failed true y e = let z : ◌≡◌ {A = ℕ} 0 1 = cc in absurd (omega arith)
+failed true y e = cc
 failed false y e = refl
 
 pub kept : {A : Type 0} (b : Bool) (x y : A) → b ≡ true → x ≡ y → Some x ≡ cond b (Some y) None
 kept {A = A} true x y h e = ap (λ (a : A). Some a) e
-kept false x y h e = let z : ◌≡◌ {A = ℕ} 0 1 = cc in absurd (omega arith)
+kept false x y h e = cc
 
 pub lost : {A : Type 0} (b : Bool) (y : A) → b ≡ false → None ≡ cond b (Some y) None
-lost true y h = let z : ◌≡◌ {A = ℕ} 0 1 = cc in absurd (omega arith)
+lost true y h = cc
 lost false y h = refl
 
-pub argument_some : (v : Version) (row : ShortText) → Some v.row ≡ cond (version_row row.bytes) (Some row) None → argument_rows (Some (with_version v)) ≡ argument_if (version_of row)
+pub argument_some : (v : Version) (row : ShortText) → Some v.row ≡ cond (version_row row.bytes) (Some row) None → argument_rows (Some (version_of v)) ≡ argument_if (version_of row)
 argument_some v row e =
     let p = passed (version_row row.bytes) v.row row e in
     kept (version_row row.bytes) (version_of v.row) (version_of row) p.0 (ap (λ (x : ShortText). version_of x) p.1)
@@ -40,7 +37,7 @@ argument_some v row e =
 pub argument_none : (row : ShortText) → None ≡ cond (version_row row.bytes) (Some row) None → None ≡ argument_if (version_of row)
 argument_none row e = lost (version_row row.bytes) (version_of row) (failed (version_row row.bytes) row e)
 
-pub call_some : (n : Name) (v : Version) (a : Argument) (l : Line) → Some n.row ≡ cond (name_row l.name.bytes) (Some l.name) None
+pub call_some : (n : Name) (v : Version) (a : Argument Version) (l : Line) → Some n.row ≡ cond (name_row l.name.bytes) (Some l.name) None
     → Some v.row ≡ cond (version_row l.version.bytes) (Some l.version) None → Some (argument_row a) ≡ argument_if l.argument
     → call_line (Some (record { name = n; version = v; script = l.script; action = l.action; argument = a })) l.status ≡ line_if l
 call_some n v a l e f g =
@@ -63,24 +60,9 @@ pub no_argument : (l : Line) → None ≡ argument_if l.argument → None ≡ li
 no_argument l e =
     lost (sound l) l (and_right (name_row l.name.bytes) _ (and_right (version_row l.version.bytes) (sound_argument l.argument) (failed (sound_argument l.argument) l.argument e)))
 
+pub ruleset calls = (call_some, no_name, no_version, no_argument)
+
 -- the check of a line is whether its call was made
 pub sound_is : (r : Option Call) (l : Line) → call_line r l.status ≡ line_if l → is_some r ≡ sound l
 sound_is None l e = sym (failed (sound l) l e)
 sound_is (Some c) l e = sym (passed (sound l) (line c l.status) l e).0
-
--- parts that are equal or not
-pub decided : (r : Bool) (a b : ShortText) → Decides r (a ≡ b) → r ≡ same_row a b
-decided true a b d = sym ((bytes_eq-Decides a.bytes b.bytes).1 (ap (λ (x : ShortText). x.bytes) (d.0 refl)))
-decided false a b d = go (bytes_eq a.bytes b.bytes) refl
-  where
-    go : (t : Bool) → bytes_eq a.bytes b.bytes ≡ t → false ≡ same_row a b
-    go true e = absurd (true≢false (sym (d.1 (λ i. record { bytes = (bytes_eq-Decides a.bytes b.bytes).0 e i }))))
-    go false e = sym e
-
-pub stops : (a x : Bool) → false ≡ a → false ≡ (a && x)
-stops true x e = absurd (true≢false (sym e))
-stops false x e = refl
-
-pub goes : (a x r : Bool) → true ≡ a → r ≡ x → r ≡ (a && x)
-goes true x r e h = h
-goes false x r e h = absurd (true≢false e)

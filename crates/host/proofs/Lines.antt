@@ -1,26 +1,15 @@
 -- The lines of a trace, one after the other.
 use Rattle.std.proofs.Common.{◌≡◌, ℕ, suc, ◌+◌, ◌<◌, ◌≤◌, Bool, true, false, cond, leb, List, [], ◌∷◌, ◌++◌, length, get_or, take, drop, Some, None, Option, Result, sym, refl, ap, ◌∙◌, subst, append_assoc, append-nil, arith, length-append, length-take-le}
-use Rattle.std.proofs.lemmas.List.{length-take, at_drop_more, at_drop_all}
-use Rattle.std.proofs.lemmas.Bool.{true≢false, le-leb, lt-leb}
+use Rattle.std.proofs.lemmas.List.{at_drop_more, at_drop_all}
+use Rattle.std.proofs.lemmas.Bool.{lt-leb}
 use Rattle.base.specs.declared.reasons.Reason.{Reason}
 use Rattle.base.specs.declared.reasons.Reason.TheVariants.{WrongValue, BufferShort}
 use Rattle.base.specs.declared.reasons.Refusal.{Refusal}
-use Rattle.writer.specs.Fills.{GoesOn}
-use Rattle.writer.proofs.Joins.{from_start}
+use Rattle.writer.specs.declared.page.Page.{Page}
+use Rattle.writer.specs.Pages.{Stopped}
 use Rattle.host.specs.declared.line.Line.{Line}
 use Rattle.host.specs.Rows.{sound}
-use Rattle.host.specs.Lines.{line_text, trace_text, writes, answer, Added, Whole, Written}
-
--- one line, whole or not
-pub added : (r : Bool) {w out out' : List ℕ} {n n' : ℕ} → r ≡ true → n ≤ length out → GoesOn true r w out n out' n' → Added (Some n') w out n out'
-added true {w = w} {out = out} {out' = out'} {n = n} {n' = n'} e h g =
-    let t = from_start h g in
-    (t.1, t.0, omega (arith, t.0, t.2, length-take n' out', ap length t.1, length-append (take n out) w, length-take-le n out h))
-added false e h g = absurd (true≢false (sym e))
-
-pub not_added : (r : Bool) {w out out' : List ℕ} {n n' : ℕ} → r ≡ false → n ≤ length out → GoesOn true r w out n out' n' → Added None w out n out'
-not_added true e h g = absurd (true≢false e)
-not_added false e h g = let t = from_start h g in (t.0, t.1)
+use Rattle.host.specs.Lines.{line_text, trace_text, writes, answer, Whole, Written}
 
 -- what is written is the text of the lines from the first on
 abbrev Front : Option Reason → List ℕ → List ℕ → List Line → Type 0
@@ -46,8 +35,8 @@ whole_of None t lines out f b = (ap length f, b ∙ f)
 whole_of (Some reason) t lines out (k, h, e) b = (k, h, ap length e, b ∙ e)
 
 -- the end of the writing, at any line
-pub ends : (lines : List Line) (room n : ℕ) (out : List ℕ) (o : Option Reason) (r : Result ℕ Refusal) → r ≡ answer o n → n ≤ length out → (o, take n out) ≡ writes room [] lines → Written r lines room out
-ends lines room n out o r q h e =
+ended : (lines : List Line) (room n : ℕ) (out : List ℕ) (o : Option Reason) (r : Result ℕ Refusal) → r ≡ answer o n → n ≤ length out → (o, take n out) ≡ writes room [] lines → Written r lines room out
+ended lines room n out o r q h e =
     let len = length-take-le n out h in
     let value : r ≡ answer (writes room [] lines).0 (length (writes room [] lines).1) =
     q ∙ ap (answer o) (sym len) ∙ ap (λ (w : Option Reason × List ℕ). answer w.0 (length w.1)) e in
@@ -59,42 +48,38 @@ ends lines room n out o r q h e =
       whole = subst (λ (x : Result ℕ Refusal). Whole x lines out) (sym value) (whole_of (writes room [] lines).0 (writes room [] lines).1 lines out (front room [] lines) bytes);
     }
 
--- one turn at the line l
-written_on : (room : ℕ) (text : List ℕ) (l : Line) (ls : List Line) → sound l ≡ true → length (text ++ line_text l) ≤ room → writes room text (l ∷ ls) ≡ writes room (text ++ line_text l) ls
-written_on room text l ls s h = rw (s, le-leb (length (text ++ line_text l)) room h) refl
+pub ends : (lines : List Line) (room n : ℕ) (bytes out : List ℕ) (o : Option Reason) (r : Result ℕ Refusal) → out ≡ bytes → r ≡ answer o n → n ≤ length bytes → (o, take n bytes) ≡ writes room [] lines → Written r lines room out
+ends lines room n bytes out o r same q h e = subst (Written r lines room) (sym same) (ended lines room n bytes o r q h e)
 
+-- one turn at the line l
 written_bad : (room : ℕ) (text : List ℕ) (l : Line) (ls : List Line) → sound l ≡ false → writes room text (l ∷ ls) ≡ (Some WrongValue, text)
 written_bad room text l ls s = rw s refl
 
 written_short : (room : ℕ) (text : List ℕ) (l : Line) (ls : List Line) → sound l ≡ true → room < length (text ++ line_text l) → writes room text (l ∷ ls) ≡ (Some BufferShort, text)
 written_short room text l ls s h = rw (s, lt-leb (length (text ++ line_text l)) room h) refl
 
-abbrev pub Goes : ℕ → ℕ → List ℕ → ℕ → List Line → Type 0
-Goes room n out i lines = (writes room (take n out) (drop i lines) ≡ writes room [] lines) × (n ≤ length out) × (length out ≡ room)
+-- The page holds the text of the lines before the place i, and what is left comes to the same.
+pub record Goes (room : ℕ) (page first : Page) (i : ℕ) (lines : List Line) : Type 0 where
+  pub left : writes room (take page.count page.bytes.now) (drop i lines) ≡ writes room [] lines
+  pub room_kept : length page.bytes.now ≡ room
+  pub same_reference : page.bytes.ghost_name ≡ first.bytes.ghost_name
 
-at_line : (room n : ℕ) (out : List ℕ) (i : ℕ) (lines : List Line) (d : Line) → i < length lines → writes room (take n out) (drop i lines) ≡ writes room (take n out) (get_or lines i d ∷ drop (i + 1) lines)
-at_line room n out i lines d h = at_drop_more (writes room (take n out)) lines i d h
+at_line : (room : ℕ) (text : List ℕ) (i : ℕ) (lines : List Line) (d : Line) → i < length lines → writes room text (drop i lines) ≡ writes room text (get_or lines i d ∷ drop (i + 1) lines)
+at_line room text i lines d h = at_drop_more (writes room text) lines i d h
 
-pub goes_on : (room n n' : ℕ) (out out' : List ℕ) (i : ℕ) (lines : List Line) (d : Line) → i < length lines → length out' ≡ length out → sound (get_or lines i d) ≡ true
-    → Goes room n out i lines → Added (Some n') (line_text (get_or lines i d)) out n out' → Goes room n' out' (i + 1) lines
-goes_on room n n' out out' i lines d h len s g a =
+pub goes_bad : (room : ℕ) (page first : Page) (i : ℕ) (lines : List Line) (d : Line) → i < length lines → sound (get_or lines i d) ≡ false
+    → Goes room page first i lines → (Some WrongValue, take page.count page.bytes.now) ≡ writes room [] lines
+goes_bad room page first i lines d h s g =
+    let text = take page.count page.bytes.now in
+    sym (written_bad room text (get_or lines i d) (drop (i + 1) lines) s) ∙ sym (at_line room text i lines d h) ∙ g.left
+
+pub goes_short : (room : ℕ) (page page' first : Page) (i : ℕ) (lines : List Line) (d : Line) → i < length lines → sound (get_or lines i d) ≡ true
+    → Goes room page first i lines → Stopped (line_text (get_or lines i d)) page page' → (Some BufferShort, take page.count page'.bytes.now) ≡ writes room [] lines
+goes_short room page page' first i lines d h s g w =
     let l = get_or lines i d in
-    let fit : length (take n out ++ line_text l) ≤ room = omega (arith, length-append (take n out) (line_text l), length-take-le n out g.1, a.1, a.2, g.2) in (
-      ap (λ (x : List ℕ). writes room x (drop (i + 1) lines)) a.0 ∙ sym (written_on room (take n out) l (drop (i + 1) lines) s fit) ∙ sym (at_line room n out i lines d h) ∙ g.0,
-      omega (arith, a.2, len),
-      len ∙ g.2,
-    )
+    let text = take page.count page.bytes.now in
+    let wide : room < length (text ++ line_text l) = omega (arith, length-append text (line_text l), length-take-le page.count page.bytes.now page.fits, w.lacks, g.room_kept) in
+    ap (λ (x : List ℕ). (Some BufferShort, x)) w.front ∙ sym (written_short room text l (drop (i + 1) lines) s wide) ∙ sym (at_line room text i lines d h) ∙ g.left
 
-pub goes_bad : (room n : ℕ) (out : List ℕ) (i : ℕ) (lines : List Line) (d : Line) → i < length lines → sound (get_or lines i d) ≡ false
-    → Goes room n out i lines → (Some WrongValue, take n out) ≡ writes room [] lines
-goes_bad room n out i lines d h s g = sym (written_bad room (take n out) (get_or lines i d) (drop (i + 1) lines) s) ∙ sym (at_line room n out i lines d h) ∙ g.0
-
-pub goes_short : (room n : ℕ) (out out' : List ℕ) (i : ℕ) (lines : List Line) (d : Line) → i < length lines → sound (get_or lines i d) ≡ true
-    → Goes room n out i lines → Added None (line_text (get_or lines i d)) out n out' → (Some BufferShort, take n out') ≡ writes room [] lines
-goes_short room n out out' i lines d h s g a =
-    let l = get_or lines i d in
-    let wide : room < length (take n out ++ line_text l) = omega (arith, length-append (take n out) (line_text l), length-take-le n out g.1, a.0, g.2) in
-    ap (λ (x : List ℕ). (Some BufferShort, x)) a.1 ∙ sym (written_short room (take n out) l (drop (i + 1) lines) s wide) ∙ sym (at_line room n out i lines d h) ∙ g.0
-
-pub goes_out : (room n : ℕ) (out : List ℕ) (i : ℕ) (lines : List Line) → length lines ≤ i → Goes room n out i lines → (None, take n out) ≡ writes room [] lines
-goes_out room n out i lines h g = sym (at_drop_all (writes room (take n out)) lines i h) ∙ g.0
+pub goes_out : (room : ℕ) (page first : Page) (i : ℕ) (lines : List Line) → length lines ≤ i → Goes room page first i lines → (None, take page.count page.bytes.now) ≡ writes room [] lines
+goes_out room page first i lines h g = sym (at_drop_all (writes room (take page.count page.bytes.now)) lines i h) ∙ g.left

@@ -1,11 +1,13 @@
 -- What a script host is, what a run of a call does, and the trace line that it leaves.
-use Rattle.std.specs.Prelude.{◌≡◌, ℕ, ◌+◌, ◌%◌, ◌^◌, ◌<◌, ◌≤◌, Bool, List, [], ◌∷◌, ◌++◌, length, take, Some, None, Option, ◌==◌, slice_set}
+use Rattle.std.specs.Prelude.{◌≡◌, ℕ, ◌+◌, ◌%◌, ◌^◌, ◌≤◌, Bool, List, [], ◌∷◌, Some, None, Option, ◌==◌}
+use Rattle.base.specs.declared.texts.ShortText.{ShortText}
+use Rattle.base.specs.Named.{Version}
 use Rattle.host.specs.declared.calls.Argument.{Argument}
-use Rattle.host.specs.declared.calls.Argument.TheVariants.{Version, Null, Nothing}
+use Rattle.host.specs.declared.calls.Argument.TheVariants.{Version as version_of, Null, Nothing}
 use Rattle.host.specs.declared.calls.Call.{Call}
-use Rattle.host.specs.declared.line.ArgumentRow.{ArgumentRow}
-use Rattle.host.specs.declared.line.ArgumentRow.TheVariants.{Version as version_row, Null as null_row, Nothing as nothing_row}
 use Rattle.host.specs.declared.line.Line.{Line}
+use Rattle.host.specs.declared.trace.Trace.{Trace}
+use Rattle.host.specs.Traces.{OneMore, space}
 
 -- the status that each call would get now, the latest call or none, and the count of runs modulo 2^64
 pub record Meaning : Type 0 where
@@ -23,10 +25,11 @@ pub record Ran (m : Meaning) (c : Call) (s : ℕ) (m' : Meaning) : Type 0 where
   pub now_latest : m'.latest ≡ Some c
   pub one_more : m'.count ≡ (m.count + 1) % 2 ^ 64
 
-abbrev pub argument_row : Argument → ArgumentRow
-argument_row (Version v) = version_row v.row
-argument_row Null = null_row
-argument_row Nothing = nothing_row
+-- the same argument with its version as a plain row
+abbrev pub argument_row : Argument Version → Argument ShortText
+argument_row (version_of v) = version_of v.row
+argument_row Null = Null
+argument_row Nothing = Nothing
 
 -- the line that tells of the call c and its status s
 abbrev pub line : Call → ℕ → Line
@@ -49,19 +52,16 @@ pub data Runs : Meaning → List Line → Meaning → Type 0 where
   none : {m : Meaning} → Runs m [] m
   more : {m m' m'' : Meaning} {rest : List Line} (c : Call) (s : ℕ) → Ran m c s m' → Runs m' rest m'' → Runs m (line c s ∷ rest) m''
 
--- The call was run with the status s, and the trace of n lines has one line more: its row, of the host's latest call and the status.
-pub record Noted (c : Call) (s : ℕ) (m m' : Meaning) (t : List Line) (n : ℕ) (t' : List Line) (n' : ℕ) : Type 0 where
-  pub room : n < length t
+-- The call was run with the status s, and the trace has one line more: that of the host's latest call and the status.
+pub record Noted (c : Call) (s : ℕ) (m m' : Meaning) (t t' : Trace) : Type 0 where
   pub ran : Ran m c s m'
   pub of_latest : call_line m'.latest s ≡ Some (line c s)
-  pub one_line : take n' t' ≡ take n t ++ line c s ∷ []
-  pub one_row : t' ≡ slice_set t n (line c s)
-  pub one_more : n' ≡ n + 1
+  pub noted : OneMore (line c s) t t'
 
 -- A call was asked: it has been run and has its line; or there was no room for a line, and nothing changed.
-abbrev pub Asked : Call → Option ℕ → Meaning → Meaning → List Line → ℕ → List Line → ℕ → Type 0
-Asked c (Some s) m m' t n t' n' = Noted c s m m' t n t' n'
-Asked c None m m' t n t' n' = (length t ≤ n) × (t' ≡ t) × (n' ≡ n)
+abbrev pub Asked : Call → Option ℕ → Meaning → Meaning → Trace → Trace → Type 0
+Asked c (Some s) m m' t t' = Noted c s m m' t t'
+Asked c None m m' t t' = (space t ≤ t.used) × (t' ≡ t)
 
 -- Where nothing was run, the host itself is as it was.
 abbrev pub Keeps : {H : Type 0} → Option ℕ → H → H → Type 0

@@ -1,13 +1,14 @@
 -- The trace written out: a line for each call that was run.
-use Rattle.std.specs.Prelude.{◌≡◌, ℕ, ◌+◌, ◌<◌, ◌≤◌, cond, List, [], ◌∷◌, ◌++◌, length, take, Some, None, Ok, Err, codes, decimal, Option, Result, nat_le}
+use Rattle.std.specs.Prelude.{◌≡◌, ℕ, ◌<◌, cond, List, [], ◌∷◌, ◌++◌, length, take, Some, None, Ok, Err, codes, decimal, Option, Result, nat_le}
 use Rattle.std.specs.List.{flat_map}
 use Rattle.base.specs.Texts.{spelt}
 use Rattle.base.specs.Refusals.{text_refusal}
 use Rattle.base.specs.declared.reasons.Reason.{Reason}
 use Rattle.base.specs.declared.reasons.Reason.TheVariants.{WrongValue, BufferShort}
 use Rattle.base.specs.declared.reasons.Refusal.{Refusal}
-use Rattle.host.specs.declared.line.ArgumentRow.{ArgumentRow}
-use Rattle.host.specs.declared.line.ArgumentRow.TheVariants.{Version, Null, Nothing}
+use Rattle.base.specs.declared.texts.ShortText.{ShortText}
+use Rattle.host.specs.declared.calls.Argument.{Argument}
+use Rattle.host.specs.declared.calls.Argument.TheVariants.{Version, Null, Nothing}
 use Rattle.host.specs.declared.line.Line.{Line}
 use Rattle.host.specs.Calls.{script_number, action_number}
 use Rattle.host.specs.Rows.{sound}
@@ -16,7 +17,7 @@ use Rattle.host.specs.Rows.{sound}
 abbrev pub word : List ℕ → List ℕ
 word text = text ++ (32 ∷ [])
 
-abbrev pub argument_text : ArgumentRow → List ℕ
+abbrev pub argument_text : Argument ShortText → List ℕ
 argument_text (Version row) = spelt row.bytes
 argument_text Null = codes "null"
 argument_text Nothing = codes "-"
@@ -37,11 +38,6 @@ line_text l =
 
 abbrev pub trace_text : List Line → List ℕ
 trace_text lines = flat_map line_text lines
-
--- The text was added to the first n bytes of `out`, and n' bytes stand then; or it did not fit.
-abbrev pub Added : Option ℕ → List ℕ → List ℕ → ℕ → List ℕ → Type 0
-Added (Some n') text out n out' = (take n' out' ≡ take n out ++ text) × (n' ≡ n + length text) × (n' ≤ length out)
-Added None text out n out' = (length out < n + length text) × (take n out' ≡ take n out)
 
 -- What writing the lines behind a text comes to: the reason why it stopped, if it did, and the text of the whole lines.
 -- At one line a bad value (7) is found before a short buffer (9).

@@ -3,17 +3,17 @@ use Rattle.std.specs.Prelude.{◌≡◌, Bool, true, false, cond, ◌&&◌, Some
 use Rattle.std.specs.Str.{bytes_eq}
 use Rattle.base.specs.Texts.{name_row, version_row}
 use Rattle.base.specs.declared.texts.ShortText.{ShortText}
+use Rattle.base.specs.Named.{Version}
 use Rattle.host.specs.declared.calls.Argument.{Argument}
 use Rattle.host.specs.declared.calls.Call.{Call}
-use Rattle.host.specs.declared.line.ArgumentRow.{ArgumentRow}
-use Rattle.host.specs.declared.line.ArgumentRow.TheVariants.{Version, Null, Nothing}
+use Rattle.host.specs.declared.calls.Argument.TheVariants.{Version as version_of, Null, Nothing}
 use Rattle.host.specs.declared.line.Line.{Line}
 use Rattle.host.specs.Calls.{script_number, action_number}
 use Rattle.host.specs.Hosts.{argument_row, line}
 
 -- the version of an argument is allowed
-abbrev pub sound_argument : ArgumentRow → Bool
-sound_argument (Version row) = version_row row.bytes
+abbrev pub sound_argument : Argument ShortText → Bool
+sound_argument (version_of row) = version_row row.bytes
 sound_argument Null = true
 sound_argument Nothing = true
 
@@ -21,10 +21,10 @@ sound_argument Nothing = true
 abbrev pub sound : Line → Bool
 sound l = name_row l.name.bytes && (version_row l.version.bytes && sound_argument l.argument)
 
-abbrev pub argument_if : ArgumentRow → Option ArgumentRow
+abbrev pub argument_if : Argument ShortText → Option (Argument ShortText)
 argument_if row = cond (sound_argument row) (Some row) None
 
-abbrev pub argument_rows : Option Argument → Option ArgumentRow
+abbrev pub argument_rows : Option (Argument Version) → Option (Argument ShortText)
 argument_rows None = None
 argument_rows (Some a) = Some (argument_row a)
 
@@ -34,16 +34,11 @@ line_if l = cond (sound l) (Some l) None
 abbrev pub same_row : ShortText → ShortText → Bool
 same_row a b = bytes_eq a.bytes b.bytes
 
-abbrev pub same_argument : ArgumentRow → ArgumentRow → Bool
-same_argument (Version a) (Version b) = same_row a b
-same_argument (Version a) Null = false
-same_argument (Version a) Nothing = false
-same_argument Null (Version b) = false
+abbrev pub same_argument : Argument ShortText → Argument ShortText → Bool
+same_argument (version_of a) (version_of b) = same_row a b
 same_argument Null Null = true
-same_argument Null Nothing = false
-same_argument Nothing (Version b) = false
-same_argument Nothing Null = false
 same_argument Nothing Nothing = true
+same_argument _ _ = false
 
 -- Both lines tell of one call: all five parts are equal.
 abbrev pub same_call : Line → Line → Bool

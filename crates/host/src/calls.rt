@@ -1,33 +1,33 @@
 use base::{Name, Version};
 
 // A package's four maintainer scripts. Their numbers are given by `script_number` of specs/Calls.antt.
-#[derive(Clone, Copy, PartialEq, Eq)]
+#[derive(Clone, Copy, PartialEq, Eq, Debug)]
 pub enum Script {
-    Preinst,
-    Postinst,
-    Prerm,
-    Postrm,
+    Preinst = 1,
+    Postinst = 2,
+    Prerm = 3,
+    Postrm = 4,
 }
 
 // What a script is asked to do. The numbers are given by `action_number` of specs/Calls.antt.
-#[derive(Clone, Copy, PartialEq, Eq)]
+#[derive(Clone, Copy, PartialEq, Eq, Debug)]
 pub enum Action {
-    Install,
-    Upgrade,
-    Configure,
-    Remove,
-    Purge,
-    AbortInstall,
-    AbortUpgrade,
-    AbortRemove,
-    FailedUpgrade,
+    Install = 1,
+    Upgrade = 2,
+    Configure = 3,
+    Remove = 4,
+    Purge = 5,
+    AbortInstall = 6,
+    AbortUpgrade = 7,
+    AbortRemove = 8,
+    FailedUpgrade = 9,
 }
 
-// What stands behind the action.
-#[derive(Clone, Copy)]
-pub enum Argument {
+// What stands behind the action, with a `Version` in it or its plain row.
+#[derive(Clone, Copy, PartialEq, Eq, Debug)]
+pub enum Argument<V> {
     // another version of the package
-    Version(Version),
+    Version(V),
     // an argument that is there and empty: there was never a version
     Null,
     // no argument
@@ -42,5 +42,5 @@ pub struct Call {
     pub version: Version,
     pub script: Script,
     pub action: Action,
-    pub argument: Argument,
+    pub argument: Argument<Version>,
 }

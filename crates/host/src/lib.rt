@@ -1,6 +1,7 @@
 // Script calls, what a script host is, and the trace of what was run.
 #![tactic(auto)]
 
+mod asking;
 mod calls;
 mod hosts;
 mod laws;
@@ -10,9 +11,11 @@ mod rows;
 mod trace;
 mod writing;
 
+pub use asking::ask;
 pub use calls::{Action, Argument, Call, Script};
 pub use hosts::{Host, works};
 pub use laws::tells_its_call;
 pub use line::{ArgumentRow, Line, Status};
-pub use trace::ask;
+pub use trace::Trace;
+pub use writer::Full;
 pub use writing::write_trace;

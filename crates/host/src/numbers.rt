@@ -8,12 +8,7 @@ impl Script {
     pub fn number(self) -> u8
         ensures { result ≡ script_number self }
     {
-        match self {
-            Script::Preinst => 1,
-            Script::Postinst => 2,
-            Script::Prerm => 3,
-            Script::Postrm => 4,
-        }
+        self as u8
     }
 }
 
@@ -22,16 +17,6 @@ impl Action {
     pub fn number(self) -> u8
         ensures { result ≡ action_number self }
     {
-        match self {
-            Action::Install => 1,
-            Action::Upgrade => 2,
-            Action::Configure => 3,
-            Action::Remove => 4,
-            Action::Purge => 5,
-            Action::AbortInstall => 6,
-            Action::AbortUpgrade => 7,
-            Action::AbortRemove => 8,
-            Action::FailedUpgrade => 9,
-        }
+        self as u8
     }
 }

@@ -9,7 +9,7 @@ use base::{Name, ShortText, Version};
 
 impl ArgumentRow {
     // The argument in a plain row; nothing exactly where its version is not allowed.
-    fn argument(&self) -> Option<Argument>
+    fn argument(&self) -> Option<Argument<Version>>
         ensures { argument_rows result ≡ argument_if self.now }
     {
         match self {
@@ -23,37 +23,9 @@ impl ArgumentRow {
     }
 }
 
-fn same_row(a: ShortText, b: ShortText) -> bool
-    ensures { result ≡ same_row a b }
-{
-    a == b
-}
-
-fn same_script(a: Script, b: Script) -> bool
-    ensures { result ≡ (script_number a == script_number b) }
-{
-    a.number() == b.number()
-}
-
-fn same_action(a: Action, b: Action) -> bool
-    ensures { result ≡ (action_number a == action_number b) }
-{
-    a.number() == b.number()
-}
-
-fn same_argument(a: ArgumentRow, b: ArgumentRow) -> bool
-    ensures { result ≡ same_argument a b }
-{
-    match (a, b) {
-        (ArgumentRow::Version(row), ArgumentRow::Version(wanted)) => same_row(row, wanted),
-        (ArgumentRow::Null, ArgumentRow::Null) => true,
-        (ArgumentRow::Nothing, ArgumentRow::Nothing) => true,
-        _ => false,
-    }
-}
-
 impl Line {
     // The call that the line tells of; nothing exactly where its name or a version is not allowed.
+    #[tactic(auto, using(crate::proofs::Checks::calls))]
     pub fn call(&self) -> Option<Call>
         ensures { call_line result self.now.status ≡ line_if self.now }
     {
@@ -70,35 +42,17 @@ impl Line {
     }
 
     // Whether a call can have left this line.
+    #[tactic(auto, using(crate::proofs::Checks::sound_is))]
     pub(crate) fn is_sound(&self) -> bool
         ensures { result ≡ sound self.now }
     {
         self.call().is_some()
     }
 
-    // Whether both lines tell of one call: all five parts are equal.
-    fn same_call(&self, other: &Line) -> bool
-        ensures { result ≡ same_call self.now other.now }
-    {
-        if !same_row(self.name, other.name) {
-            return false;
-        }
-        if !same_row(self.version, other.version) {
-            return false;
-        }
-        if !same_script(self.script, other.script) {
-            return false;
-        }
-        if !same_action(self.action, other.action) {
-            return false;
-        }
-        same_argument(self.argument, other.argument)
-    }
-
     // Whether the line tells of this call.
     pub fn tells(&self, call: Call) -> bool
         ensures { result ≡ tells self.now call }
     {
-        self.same_call(&Line::new(call, self.status))
+        *self == Line::new(call, self.status)
     }
 }

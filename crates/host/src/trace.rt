@@ -1,67 +1,73 @@
-ghost use Rattle.std.specs.Prelude.{◌≡◌, ◌+◌, ◌<◌, [], ◌∷◌, ◌++◌, length, take, slice_set};
-ghost use Rattle.host.specs.Hosts.{line, argument_row, Asked, Keeps};
+ghost use Rattle.std.specs.Prelude.{◌≤◌, length};
 
-use crate::calls::{Argument, Call};
-use crate::hosts::Host;
-use crate::line::{ArgumentRow, Line, Status};
+use crate::line::Line;
+use writer::Full;
 
-impl Argument {
-    // The argument as plain data.
-    pub fn row(&self) -> ArgumentRow
-        ensures { result ≡ argument_row self.now }
+// Lent memory whose first `used` lines tell of the calls that were run. The rows behind them are free.
+// It takes one line at a time, where a `Page` takes texts of any length, so the two share no more than their shape.
+#[derive(Drop)]
+pub struct Trace<'a> {
+    pub(crate) lines: &'a mut [Line],
+    pub(crate) used: usize,
+    ghost fits: { used ≤ length lines.now },
+}
+
+impl<'a> Trace<'a> {
+    ghost use Rattle.std.specs.Prelude.{◌≡◌, ◌+◌, ◌<◌, [], length, MatchOption};
+    ghost use Rattle.host.specs.Traces.{lines_in, space, Adds};
+
+    // No line is in use.
+    pub fn new(lines: &'a mut [Line]) -> Trace<'a>
+        ensures same_reference { result.lines.ghost_name ≡ lines.entry.ghost_name }
+        ensures rows { result.lines.now ≡ lines.old }
+        ensures none { lines_in result ≡ [] }
     {
-        match self {
-            Argument::Version(version) => ArgumentRow::Version(version.row()),
-            Argument::Null => ArgumentRow::Null,
-            Argument::Nothing => ArgumentRow::Nothing,
-        }
+        Trace { lines, used: 0 }
     }
-}
 
-impl Line {
-    // The line that tells of this call and its status.
-    pub fn new(call: Call, status: Status) -> Line
-        ensures { result ≡ line call status }
+    // The first `used` lines are in use already; nothing where there are not so many.
+    pub fn resume(lines: &'a mut [Line], used: usize) -> Option<Trace<'a>>
+        ensures { MatchOption result (length lines.old < used) (λ trace. (trace.lines.now ≡ lines.old) × (trace.used ≡ used) × (trace.lines.ghost_name ≡ lines.entry.ghost_name)) }
     {
-        Line {
-            name: call.name.row(),
-            version: call.version.row(),
-            script: call.script,
-            action: call.action,
-            argument: call.argument.row(),
-            status,
+        if lines.len() < used {
+            return None;
         }
+        Some(Trace { lines, used })
     }
-}
 
-// One line more behind the first `used`.
-fn note(trace: &mut [Line], used: &mut usize, line: Line)
-    requires { used.old < length trace.old }
-    ensures grown { take used.new trace.new ≡ take used.old trace.old ++ (line ∷ []) }
-    ensures row { trace.new ≡ slice_set trace.old used.old line }
-    ensures counted { used.new ≡ used.old + 1 }
-{
-    let n = *used;
-    trace[n] = line;
-    *used = n + 1;
-}
-
-// Runs the call and adds its line behind the first `used` lines of the trace. Where there is no room for a line,
-// nothing is run and nothing changes.
-pub fn ask<H: Host>(
-    host: &mut H,
-    trace: &mut [Line],
-    used: &mut usize,
-    call: Call,
-) -> Option<Status>
-    ensures asked { Asked call result (H.meaning host.old) (H.meaning host.new) trace.old used.old trace.new used.new }
-    ensures kept { Keeps result host.old host.new }
-{
-    if *used >= trace.len() {
-        return None;
+    // The lines in use, the first one first.
+    pub fn lines(&self) -> &[Line]
+        ensures { result.now ≡ lines_in self.now }
+    {
+        &self.lines[..self.used]
     }
-    let status = host.run(call);
-    let line = Line::new(call, status);
-    note(trace, used, line);
-    Some(status)
+
+    // How many lines more there is room for.
+    pub fn free(&self) -> usize
+        ensures { length (lines_in self.now) + result ≡ space self.now }
+    {
+        self.lines.len() - self.used
+    }
+
+    // One line more; where there is no room, nothing changes.
+    pub fn add(&mut self, line: Line) -> Result<(), Full>
+        ensures { Adds result line self.old self.new }
+    {
+        let used = self.used;
+        if used >= self.lines.len() {
+            return Err(Full);
+        }
+        self.lines[used] = line;
+        self.used = used + 1;
+        Ok(())
+    }
+
+    // No line is in use from now on.
+    pub fn clear(&mut self)
+        ensures none { lines_in self.new ≡ [] }
+        ensures rows { self.new.lines.now ≡ self.old.lines.now }
+        ensures same_reference { self.new.lines.ghost_name ≡ self.old.lines.ghost_name }
+    {
+        self.used = 0;
+    }
 }

@@ -1,62 +1,56 @@
-ghost use Rattle.std.specs.Prelude.{◌≡◌, ◌≤◌, length, decimal};
-ghost use Rattle.writer.specs.Fills.{GoesOn};
-ghost use Rattle.host.specs.Lines.{word, argument_text, status_text, line_text, Added, Written};
+ghost use Rattle.std.specs.Prelude.{length, decimal};
+ghost use Rattle.writer.specs.Pages.{Writes};
+ghost use Rattle.host.specs.Lines.{word, argument_text, status_text, line_text, Written};
 
 use crate::line::{ArgumentRow, Line, Status};
 use base::{Reason, Refusal};
-use writer::{put, put_number};
+use writer::{Full, Page};
 
 // A text and a space.
-fn put_word(out: &mut [u8], count: &mut usize, fits: bool, text: &[u8]) -> bool
-    ensures { GoesOn fits result (word text.now) out.old count.old out.new count.new }
+fn put_word(page: &mut Page, text: &[u8]) -> Result<(), Full>
+    ensures { Writes result (word text.now) page.old page.new }
 {
-    let a = put(out, count, fits, text);
-    put(out, count, a, b" ")
+    page.put(text)?;
+    page.put(b" ")
 }
 
 // A number and a space.
-fn put_numeral(out: &mut [u8], count: &mut usize, fits: bool, number: u8) -> bool
-    ensures { GoesOn fits result (word (decimal number)) out.old count.old out.new count.new }
+fn put_numeral(page: &mut Page, number: u8) -> Result<(), Full>
+    ensures { Writes result (word (decimal number)) page.old page.new }
 {
-    let a = put_number(out, count, fits, number);
-    put(out, count, a, b" ")
+    page.put_number(number)?;
+    page.put(b" ")
 }
 
 // An argument and a space.
-fn put_argument(out: &mut [u8], count: &mut usize, fits: bool, argument: &ArgumentRow) -> bool
-    ensures { GoesOn fits result (word (argument_text argument.now)) out.old count.old out.new count.new }
+fn put_argument(page: &mut Page, argument: &ArgumentRow) -> Result<(), Full>
+    ensures { Writes result (word (argument_text argument.now)) page.old page.new }
 {
     match argument {
-        ArgumentRow::Version(row) => put_word(out, count, fits, row.as_bytes()),
-        ArgumentRow::Null => put_word(out, count, fits, b"null"),
-        ArgumentRow::Nothing => put_word(out, count, fits, b"-"),
+        ArgumentRow::Version(row) => put_word(page, row.as_bytes()),
+        ArgumentRow::Null => put_word(page, b"null"),
+        ArgumentRow::Nothing => put_word(page, b"-"),
     }
 }
 
 // A status, which ends its line.
-fn put_status(out: &mut [u8], count: &mut usize, fits: bool, status: Status) -> bool
-    ensures { GoesOn fits result (status_text status) out.old count.old out.new count.new }
+fn put_status(page: &mut Page, status: Status) -> Result<(), Full>
+    ensures { Writes result (status_text status) page.old page.new }
 {
-    let a = put_number(out, count, fits, status);
-    put(out, count, a, b"\n")
+    page.put_number(status)?;
+    page.put(b"\n")
 }
 
-// One line behind the first `count` bytes, and the count of bytes then; nothing where it does not fit.
-fn put_line(out: &mut [u8], count: usize, line: &Line) -> Option<usize>
-    requires { count ≤ length out.old }
-    ensures { Added result (line_text line.now) out.old count out.new }
+// One line; where it does not fit, what stands before it stays.
+fn put_line(page: &mut Page, line: &Line) -> Result<(), Full>
+    ensures { Writes result (line_text line.now) page.old page.new }
 {
-    let mut end = count;
-    let a = put_word(out, &mut end, true, line.name.as_bytes());
-    let b = put_word(out, &mut end, a, line.version.as_bytes());
-    let c = put_numeral(out, &mut end, b, line.script.number());
-    let d = put_numeral(out, &mut end, c, line.action.number());
-    let e = put_argument(out, &mut end, d, &line.argument);
-    if put_status(out, &mut end, e, line.status) {
-        Some(end)
-    } else {
-        None
-    }
+    put_word(page, line.name.as_bytes())?;
+    put_word(page, line.version.as_bytes())?;
+    put_numeral(page, line.script.number())?;
+    put_numeral(page, line.action.number())?;
+    put_argument(page, &line.argument)?;
+    put_status(page, line.status)
 }
 
 // Writes the lines, one after the other, and answers the count of bytes. Refused 9 at the first line that does not
@@ -64,15 +58,13 @@ fn put_line(out: &mut [u8], count: usize, line: &Line) -> Option<usize>
 pub fn write_trace(lines: &[Line], out: &mut [u8]) -> Result<usize, Refusal>
     ensures { Written result lines.now (length out.old) out.new }
 {
-    let mut count = 0;
+    let mut page = Page::new(out);
     for line in lines {
+        let count = page.count();
         if !line.is_sound() {
             return Err(Refusal::in_text(Reason::WrongValue, count));
         }
-        let Some(end) = put_line(out, count, line) else {
-            return Err(Refusal::in_text(Reason::BufferShort, count));
-        };
-        count = end;
+        put_line(&mut page, line).map_err(|_| Refusal::in_text(Reason::BufferShort, count))?;
     }
-    Ok(count)
+    Ok(page.count())
 }

@@ -1,31 +1,14 @@
 -- What each host would answer now, and what a run leaves of it.
-use Rattle.std.specs.Prelude.{◌≡◌, ℕ, ◌+◌, ◌%◌, ◌^◌, ◌<◌, ◌≤◌, Bool, false, cond, ◌&&◌, ◌||◌, List, [], ◌∷◌, length, drop, Some, None, Ok, Err, Result, ◌==◌, nat_lt, slice_index}
+use Rattle.std.specs.Prelude.{◌≡◌, ℕ, ◌+◌, ◌<◌, ◌≤◌, Bool, false, cond, ◌&&◌, ◌||◌, List, [], ◌∷◌, length, drop, Ok, Err, Result, ◌==◌, nat_lt}
 use Rattle.base.specs.Refusals.{word_refusal}
 use Rattle.base.specs.declared.reasons.Reason.TheVariants.{OutsideLimits}
 use Rattle.base.specs.declared.reasons.Refusal.{Refusal}
 use Rattle.host.specs.declared.calls.Call.{Call}
 use Rattle.host.specs.declared.line.Line.{Line}
 use Rattle.host.specs.Calls.{script_number, action_number}
-use Rattle.host.specs.Hosts.{Meaning}
 use Rattle.host.specs.Rows.{tells}
-use Rattle.hosts.specs.declared.tables.Tally.{Tally}
 use Rattle.hosts.specs.declared.tables.Rule.{Rule}
 use Rattle.hosts.specs.declared.tables.Rules.{Rules}
-use Rattle.hosts.specs.declared.tables.RuleTable.{RuleTable}
-use Rattle.hosts.specs.declared.tables.Transcript.{Transcript}
-use Rattle.hosts.specs.declared.tables.AnswerList.{AnswerList}
-
--- before the first run
-abbrev pub fresh : Tally
-fresh = record { latest = None; count = 0 }
-
--- one run more
-abbrev pub counted : Tally → Call → Tally
-counted t c = record { latest = Some c; count = (t.count + 1) % 2 ^ 64 }
-
--- a host that answers so, with these runs behind it
-abbrev pub meaning_of : (Call → ℕ) → Tally → Meaning
-meaning_of f t = record { status = f; latest = t.latest; count = t.count }
 
 -- Rules.
 -- a number of a rule: 0 matches all, any other its own script or action
@@ -39,9 +22,6 @@ matches r c = covers r.script (script_number c.script) && covers r.action (actio
 abbrev pub ruled : List Rule → Call → ℕ
 ruled [] c = 0
 ruled (r ∷ rs) c = cond (matches r c) r.status (ruled rs c)
-
-abbrev pub rules_meaning : RuleTable → Meaning
-rules_meaning h = meaning_of (ruled h.rules.now) h.tally
 
 -- At most 32 rules are taken as they are; more are refused.
 abbrev pub Opened : Result Rules Refusal → List Rule → Type 0
@@ -58,16 +38,10 @@ abbrev pub played : List Line → Call → ℕ
 played [] c = 127
 played (l ∷ ls) c = cond (tells l c) l.status 127
 
-abbrev pub transcript_meaning : Transcript → Meaning
-transcript_meaning h = meaning_of (played (drop h.mark h.lines.now)) h.tally
-
 -- the mark moves on exactly where the line at it tells of the call
 abbrev pub mark_after : List Line → ℕ → Call → ℕ
 mark_after lines mark c = cond (due (drop mark lines) c) (mark + 1) mark
 
 -- Answers in turn.
-abbrev pub answers_meaning : AnswerList → Meaning
-answers_meaning h = meaning_of (λ c. slice_index h.statuses.now h.given) h.tally
-
 abbrev pub given_after : List ℕ → ℕ → ℕ
 given_after statuses given = cond (nat_lt given (length statuses)) (given + 1) given

@@ -4,7 +4,9 @@
 mod answers;
 mod rules;
 mod tables;
-mod tallies;
+mod tallied;
+mod tally;
 mod transcripts;
 
-pub use tables::{AnswerList, Rule, RuleTable, Rules, Transcript};
+pub use tables::{AnswerList, Playback, Rule, RuleTable, Rules, Statuses, Transcript};
+pub use tallied::{Answers, Tallied};

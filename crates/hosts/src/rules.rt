@@ -1,10 +1,10 @@
 ghost use Rattle.std.specs.Prelude.{◌≡◌};
-ghost use Rattle.host.specs.Hosts.{Ran};
-ghost use Rattle.hosts.specs.Meanings.{covers, matches, ruled, rules_meaning, fresh, Opened};
+ghost use Rattle.hosts.specs.Meanings.{covers, matches, ruled, Opened};
 
-use crate::tables::{Rule, RuleTable, Rules, Tally};
+use crate::tables::{Rule, Rules};
+use crate::tallied::Answers;
 use base::{Reason, Refusal};
-use host::{Call, Host, Status};
+use host::{Call, Status};
 
 // Whether a number of a rule stands for this script or action.
 fn covers(number: u8, own: u8) -> bool
@@ -17,10 +17,7 @@ impl Rule {
     fn matches(self, call: Call) -> bool
         ensures { result ≡ matches self call }
     {
-        if !covers(self.script, call.script.number()) {
-            return false;
-        }
-        covers(self.action, call.action.number())
+        covers(self.script, call.script.number()) && covers(self.action, call.action.number())
     }
 }
 
@@ -48,36 +45,20 @@ impl<'a> Rules<'a> {
     }
 }
 
-impl<'a> RuleTable<'a> {
-    // A host by these rules, which has run nothing.
-    pub fn new(rules: Rules<'a>) -> RuleTable<'a>
-        ensures rules { result.rules.now ≡ rules.entry.list.now }
-        ensures start { result.tally ≡ fresh }
-    {
-        RuleTable {
-            rules: rules.list,
-            tally: Tally::new(),
-        }
-    }
-}
+impl<'a> Answers for Rules<'a> {
+    type Source = Rules<'a>;
 
-impl<'a> Host for RuleTable<'a> {
-    ghost meaning = { rules_meaning };
+    ghost start = { λ rules. rules };
 
-    fn run(&mut self, call: Call) -> Status
-        ensures ran { Ran (rules_meaning self.old) call result (rules_meaning self.new) }
-        ensures rules { self.new.rules.now ≡ self.old.rules.now }
-    {
-        let status = ruled(self.rules, call);
-        self.tally.add(call);
-        status
+    ghost gives = { λ rules. ruled rules.list.now };
+
+    ghost after = { λ rules c. rules };
+
+    fn start(source: Rules<'a>) -> Rules<'a> {
+        source
     }
 
-    fn latest(&self) -> Option<Call> {
-        self.tally.latest
-    }
-
-    fn count(&self) -> u64 {
-        self.tally.count
+    fn answer(&mut self, call: Call) -> Status {
+        ruled(self.list, call)
     }
 }

@@ -2,7 +2,7 @@ use base::{Name, Version};
 use host::{Action, Argument, Call, Script};
 
 // The call of a package `base-files`, version 12.4, with this script, action and argument.
-fn call(script: Script, action: Action, argument: Argument) -> Option<Call> {
+fn call(script: Script, action: Action, argument: Argument<Version>) -> Option<Call> {
     Some(Call {
         name: Name::new(b"base-files")?,
         version: Version::new(b"12.4")?,

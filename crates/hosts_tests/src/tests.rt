@@ -1,6 +1,6 @@
 use crate::samples::sample_calls;
 use base::{Refusal, ShortText};
-use host::{Host, Line, ask, write_trace};
+use host::{Host, Line, Trace, ask, write_trace};
 use hosts::{AnswerList, Rule, RuleTable, Rules, Transcript};
 use std::test::Fail;
 
@@ -18,15 +18,10 @@ fn is_refused(refusal: Refusal, number: u8, place: usize, layer: u8) -> bool {
 
 #[test]
 fn first_matching_rule(rt: HostRuntime) -> Result<(), Fail> {
-    let Some(calls) = sample_calls() else {
-        return Err(Fail::new("no calls"));
-    };
+    let calls = sample_calls().ok_or("no calls")?;
     // there is no script 5; the rule for every prerm stands before the one for every upgrade
     let rules = [rule(5, 0, 1), rule(3, 4, 7), rule(3, 0, 8), rule(0, 2, 9)];
-    let Ok(rules) = Rules::new(&rules) else {
-        return Err(Fail::new("four rules are refused"));
-    };
-    let mut host = RuleTable::new(rules);
+    let mut host = RuleTable::new(Rules::new(&rules)?);
     assert_eq!(rt; host.run(calls.remove), 7);
     assert_eq!(rt; host.run(calls.upgrade), 8);
     assert_eq!(rt; host.run(calls.configure), 0);
@@ -36,29 +31,20 @@ fn first_matching_rule(rt: HostRuntime) -> Result<(), Fail> {
 
 #[test]
 fn rules_within_their_limit(rt: HostRuntime) -> Result<(), Fail> {
-    let Some(calls) = sample_calls() else {
-        return Err(Fail::new("no calls"));
-    };
+    let calls = sample_calls().ok_or("no calls")?;
     let rules = [rule(0, 0, 4); 33];
-    let Ok(most) = Rules::new(&rules[0..32]) else {
-        return Err(Fail::new("32 rules are refused"));
-    };
-    let mut host = RuleTable::new(most);
+    let mut host = RuleTable::new(Rules::new(&rules[0..32])?);
     assert_eq!(rt; host.run(calls.configure), 4);
-    match Rules::new(&rules) {
-        Ok(_) => Err(Fail::new("33 rules are taken")),
-        Err(refusal) => {
-            assert!(rt; is_refused(refusal, 3, 0, 2));
-            Ok(())
-        },
-    }
+    let Err(refusal) = Rules::new(&rules) else {
+        return Err(Fail::new("33 rules are taken"));
+    };
+    assert!(rt; is_refused(refusal, 3, 0, 2));
+    Ok(())
 }
 
 #[test]
 fn transcript_left_and_come_back_to(rt: HostRuntime) -> Result<(), Fail> {
-    let Some(calls) = sample_calls() else {
-        return Err(Fail::new("no calls"));
-    };
+    let calls = sample_calls().ok_or("no calls")?;
     let configured = calls.configure;
     let removed = calls.remove;
     let lines = [Line::new(configured, 0), Line::new(removed, 1)];
@@ -74,9 +60,7 @@ fn transcript_left_and_come_back_to(rt: HostRuntime) -> Result<(), Fail> {
 
 #[test]
 fn answers_in_turn(rt: HostRuntime) -> Result<(), Fail> {
-    let Some(calls) = sample_calls() else {
-        return Err(Fail::new("no calls"));
-    };
+    let calls = sample_calls().ok_or("no calls")?;
     let call = calls.configure;
     let mut host = AnswerList::new(&[0, 2]);
     assert_eq!(rt; host.run(call), 0);
@@ -88,20 +72,19 @@ fn answers_in_turn(rt: HostRuntime) -> Result<(), Fail> {
 
 #[test]
 fn no_run_without_room(rt: HostRuntime) -> Result<(), Fail> {
-    let Some(calls) = sample_calls() else {
-        return Err(Fail::new("no calls"));
-    };
+    let calls = sample_calls().ok_or("no calls")?;
     let call = calls.upgrade;
     let other = calls.configure;
     let mut host = AnswerList::new(&[3, 0, 5]);
-    let mut trace = [Line::new(other, 99); 2];
-    let mut used = 0;
-    assert_eq!(rt; ask(&mut host, &mut trace, &mut used, call), Some(3));
-    assert_eq!(rt; ask(&mut host, &mut trace, &mut used, other), Some(0));
-    assert_eq!(rt; ask(&mut host, &mut trace, &mut used, call), None);
-    assert_eq!(rt; used, 2);
+    let mut rows = [Line::new(other, 99); 2];
+    let mut trace = Trace::new(&mut rows);
+    assert_eq!(rt; ask(&mut host, &mut trace, call), Some(3));
+    assert_eq!(rt; ask(&mut host, &mut trace, other), Some(0));
+    assert_eq!(rt; ask(&mut host, &mut trace, call), None);
     assert_eq!(rt; host.count(), 2);
-    assert!(rt; trace[0].tells(call) && trace[1].tells(other));
+    let lines = trace.lines();
+    assert_eq!(rt; lines.len(), 2);
+    assert!(rt; lines[0].tells(call) && lines[1].tells(other));
     Ok(())
 }
 
@@ -122,10 +105,7 @@ fn three() -> Option<[Line; 3]> {
 fn lines_in_an_exact_buffer(rt: HostRuntime) -> Result<(), Fail> {
     let lines = three().ok_or("no call")?;
     let mut out = [0u8; 82];
-    let Ok(count) = write_trace(&lines, &mut out) else {
-        return Err(Fail::new("82 bytes are too few"));
-    };
-    assert_eq!(rt; count, 82);
+    assert_eq!(rt; write_trace(&lines, &mut out)?, 82);
     assert!(rt; out == TEXT);
     Ok(())
 }
@@ -134,20 +114,16 @@ fn lines_in_an_exact_buffer(rt: HostRuntime) -> Result<(), Fail> {
 fn lines_in_a_short_buffer(rt: HostRuntime) -> Result<(), Fail> {
     let lines = three().ok_or("no call")?;
     let mut out = [0u8; 81];
-    match write_trace(&lines, &mut out) {
-        Ok(_) => return Err(Fail::new("81 bytes are enough")),
-        Err(refusal) => {
-            assert!(rt; is_refused(refusal, 9, 56, 3));
-        },
-    }
+    let Err(refusal) = write_trace(&lines, &mut out) else {
+        return Err(Fail::new("81 bytes are enough"));
+    };
+    assert!(rt; is_refused(refusal, 9, 56, 3));
     assert!(rt; out[0..56] == TEXT[0..56]);
-    match write_trace(&lines, &mut []) {
-        Ok(_) => Err(Fail::new("no bytes are enough")),
-        Err(refusal) => {
-            assert!(rt; is_refused(refusal, 9, 0, 3));
-            Ok(())
-        },
-    }
+    let Err(refusal) = write_trace(&lines, &mut []) else {
+        return Err(Fail::new("no bytes are enough"));
+    };
+    assert!(rt; is_refused(refusal, 9, 0, 3));
+    Ok(())
 }
 
 #[test]
@@ -155,11 +131,9 @@ fn a_line_that_no_call_left(rt: HostRuntime) -> Result<(), Fail> {
     let mut lines = three().ok_or("no call")?;
     lines[1].name = ShortText { bytes: [b'A'; 16] };
     let mut out = [0u8; 29];
-    match write_trace(&lines, &mut out) {
-        Ok(_) => Err(Fail::new("a name in capitals is written")),
-        Err(refusal) => {
-            assert!(rt; is_refused(refusal, 7, 29, 3));
-            Ok(())
-        },
-    }
+    let Err(refusal) = write_trace(&lines, &mut out) else {
+        return Err(Fail::new("a name in capitals is written"));
+    };
+    assert!(rt; is_refused(refusal, 7, 29, 3));
+    Ok(())
 }

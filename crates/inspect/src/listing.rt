@@ -1,6 +1,6 @@
 use base::FileKind;
-use package::{Item, Package, Step};
-use std::alloc::{AllocError, Global};
+use package::{File, Package};
+use std::alloc::Global;
 use std::fmt;
 use std::fmt::Write;
 
@@ -28,46 +28,29 @@ impl fmt::Display for FileLine {
 
 // How many bytes the text words of a content carry: each has its count in bits 27 to 24.
 fn byte_count(content: &[u32]) -> usize {
-    let mut bytes = 0usize;
-    for word in content {
-        bytes = bytes.saturating_add((*word >> 24 & 15) as usize);
-    }
-    bytes
+    content.iter().fold(0usize, |sum, word| {
+        sum.saturating_add((*word >> 24 & 15) as usize)
+    })
 }
 
-// The files of a package that was read from these words.
-fn files_of(heap: Global, package: &Package, words: &[u32]) -> Result<Vec<FileLine>, AllocError> {
-    let mut lines = Vec::new(heap);
-    let mut items = package.files(words);
-    // each item takes at least one word
-    for _ in 0..words.len() {
-        let Ok(Step { item, rest, .. }) = items.next() else {
-            break;
-        };
-        let Item::File {
-            kind,
-            path,
-            content,
-        } = item
-        else {
-            break;
-        };
-        lines.push(FileLine {
-            kind,
-            path,
-            words: content.len(),
-            bytes: byte_count(content),
-        })?;
-        items = rest;
+fn file_line(file: File<'_>) -> FileLine {
+    FileLine {
+        kind: file.kind,
+        path: file.path,
+        words: file.content.len(),
+        bytes: byte_count(file.content),
     }
-    Ok(lines)
 }
 
 // What a package holds: a line for itself, one for each file, and one with the totals.
-pub(crate) fn listing(heap: Global, package: &Package, words: &[u32]) -> anyhow::Result<String> {
+pub(crate) fn listing(
+    heap: Global,
+    package: &Package<'_>,
+    words: &[u32],
+) -> anyhow::Result<String> {
     let name = String::from_utf8_lossy(heap, package.name.as_bytes())?;
     let version = String::from_utf8_lossy(heap, package.version.as_bytes())?;
-    let files = files_of(heap, package, words)?;
+    let files: Vec<FileLine> = package.files().map(file_line).collect(heap)?;
     let mut text = format!(in heap; "package {name} {version}\n")?;
     for file in files.iter() {
         writeln!(text, "{file}")?;

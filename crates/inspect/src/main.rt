@@ -10,27 +10,16 @@ use std::alloc::Global;
 use std::{env, fs};
 use wordfile::{Told, words_in};
 
-// What is said of a file, and whether it holds a package.
-#[derive(Drop)]
-struct Finding {
-    text: String,
-    sound: bool,
-}
-
-fn fault(text: String) -> Finding {
-    Finding { text, sound: false }
-}
+// What is said of a file: what its package holds, or why it holds none.
+type Finding = Result<String, String>;
 
 // What is said of words.
 fn judge(heap: Global, words: &[u32]) -> anyhow::Result<Finding> {
     match read_package(words) {
-        Ok(package) => Ok(Finding {
-            text: listing(heap, &package, words)?,
-            sound: true,
-        }),
+        Ok(package) => Ok(Ok(listing(heap, &package, words)?)),
         Err(refusal) => {
             let told = Told(refusal);
-            Ok(fault(format!(in heap; "{told}")?))
+            Ok(Err(format!(in heap; "{told}")?))
         }
     }
 }
@@ -41,7 +30,7 @@ fn judge_bytes(heap: Global, path: &str, bytes: &[u8]) -> anyhow::Result<Finding
         Some(words) => judge(heap, words.as_slice()),
         None => {
             let n = bytes.len();
-            Ok(fault(format!(in heap; "{path}: {n} bytes are no whole number of 4-byte words")?))
+            Ok(Err(format!(in heap; "{path}: {n} bytes are no whole number of 4-byte words")?))
         }
     }
 }
@@ -50,7 +39,7 @@ fn inspect(rt: &HostRuntime, path: &str) -> anyhow::Result<Finding> {
     let heap = rt.alloc();
     match fs::read(rt, path) {
         Ok(bytes) => judge_bytes(heap, path, bytes.as_slice()),
-        Err(error) => Ok(fault(format!(in heap; "{path}: cannot be read: {error}")?)),
+        Err(error) => Ok(Err(format!(in heap; "{path}: cannot be read: {error}")?)),
     }
 }
 
@@ -67,8 +56,9 @@ fn run(rt: &HostRuntime) -> anyhow::Result<bool> {
             println!(rt; "{path}:")?;
         }
         let finding = inspect(rt, path.as_str())?;
-        rt.println(&finding.text)?;
-        sound = sound && finding.sound;
+        sound = sound && finding.is_ok();
+        let (Ok(text) | Err(text)) = finding;
+        rt.println(&text)?;
     }
     Ok(sound)
 }

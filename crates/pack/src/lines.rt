@@ -24,9 +24,7 @@ fn package_line(rest: &str) -> Result<Line, Mistake> {
 
 fn file_line(heap: Global, kind: FileKind, rest: &str) -> Result<Line, Mistake> {
     let (path, quoted) = first_word(rest);
-    let Ok(path) = path.parse::<u8>() else {
-        return Err(Mistake::BadPath);
-    };
+    let path = path.parse::<u8>().map_err(|_| Mistake::BadPath)?;
     let content = content_of(heap, quoted)?;
     Ok(Line::File(Entry {
         kind,
@@ -42,12 +40,12 @@ pub(crate) fn line_of(heap: Global, line: &str) -> Result<Line, Mistake> {
         return Ok(Line::Nothing);
     }
     let (word, rest) = first_word(line);
-    match word.as_bytes() {
-        b"package" => package_line(rest),
-        b"plain" => file_line(heap, FileKind::Plain, rest),
-        b"conffile" => file_line(heap, FileKind::Conffile, rest),
-        b"end" if rest.is_empty() => Ok(Line::End),
-        b"end" => Err(Mistake::WordsAfterEnd),
+    match word {
+        "package" => package_line(rest),
+        "plain" => file_line(heap, FileKind::Plain, rest),
+        "conffile" => file_line(heap, FileKind::Conffile, rest),
+        "end" if rest.is_empty() => Ok(Line::End),
+        "end" => Err(Mistake::WordsAfterEnd),
         _ => Err(Mistake::UnknownWord),
     }
 }

@@ -24,6 +24,12 @@ impl From<AllocError> for Fault {
     }
 }
 
+impl From<Refusal> for Fault {
+    fn from(refusal: Refusal) -> Fault {
+        Fault::Refused(refusal)
+    }
+}
+
 impl fmt::Display for Fault {
     fn fmt<W: fmt::Write>(&self, f: &mut fmt::Formatter<W>) -> fmt::Result {
         match *self {
@@ -84,17 +90,15 @@ fn parse(heap: Global, text: &str) -> Result<Description, Fault> {
         files: Vec::new(heap),
         ended: false,
     };
-    let mut number = 1usize;
-    for line in text.lines() {
+    for (i, line) in text.lines().enumerate() {
         if let Err(mistake) = draft.add_text(heap, line) {
-            return Err(Fault::InLine(number, mistake));
+            return Err(Fault::InLine(i.saturating_add(1), mistake));
         }
-        number = number.saturating_add(1);
     }
-    match draft.finish() {
-        Ok(description) => Ok(description),
-        Err(mistake) => Err(Fault::InLine(number, mistake)),
-    }
+    let behind = text.lines().count().saturating_add(1);
+    draft
+        .finish()
+        .map_err(|mistake| Fault::InLine(behind, mistake))
 }
 
 // The words of the package that a text describes.
@@ -102,7 +106,7 @@ pub(crate) fn pack(heap: Global, text: &str) -> Result<Vec<u32>, Fault> {
     let description = parse(heap, text)?;
     let words = encode(heap, &description)?;
     if let Err(refusal) = read_package(words.as_slice()) {
-        return Err(Fault::Refused(refusal));
+        return Err(refusal.into());
     }
     Ok(words)
 }

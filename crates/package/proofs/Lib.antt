@@ -1,7 +1,10 @@
+pub mod Few
 pub mod Fields
 pub mod Gathers
+pub mod Handing
 pub mod ItemRuns
 pub mod Parting
+pub mod Placed
 pub mod Splits
 pub mod Tests
 pub mod TextRuns

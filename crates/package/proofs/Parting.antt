@@ -7,10 +7,10 @@ use Rattle.base.specs.declared.reasons.Reason.TheVariants.{WrongWord, OutsideLim
 use Rattle.base.specs.declared.texts.TextKind.{TextKind}
 use Rattle.base.specs.declared.texts.TextKind.TheVariants.{Name as name, Version as version}
 use Rattle.base.specs.Texts.{allowed, fitting, spelled, padded, spelt}
-use Rattle.base.specs.declared.name.Name.{Name}
-use Rattle.base.specs.declared.version.Version.{Version as Version'}
+use Rattle.base.specs.declared.kinds.Kind.{Ghosts as Kind}
+use Rattle.base.specs.declared.text.Text.{Text}
 use Rattle.base.specs.declared.texts.ShortText.{ShortText}
-use Rattle.base.specs.Named.{name_rows, version_rows, name_text, version_text, row_of}
+use Rattle.base.specs.Named.{row_in, text as text_of, row_of}
 use Rattle.base.proofs.Rows.{padded_spelt}
 use Rattle.std.proofs.lemmas.Bool.Decides.{nat_tests}
 use Rattle.package.specs.declared.rules.TextRule.TheVariants.{Spelled}
@@ -21,7 +21,8 @@ use Rattle.package.specs.Words.{bytes, is_head, name_length, version_length}
 use Rattle.package.specs.Checks.{package_head, name_head, text, item, nothing, fault, refusal}
 use Rattle.package.specs.Items.{Handed, due_at, item_at, item_refusal, part_words, text_refusal, words_for}
 use Rattle.package.specs.Packages.{text_in, files_in, version_due, name_in, version_in}
-use Rattle.package.specs.Readings.{Alone, Parted, name_refusal, package_refusal}
+use Rattle.package.specs.Accepted.{name_refusal, package_refusal, files_place}
+use Rattle.package.specs.Readings.{Alone, Parted}
 use Rattle.package.proofs.Tests.{some_none, must_none, or_else_none}
 use Rattle.package.proofs.TextSound.{text_sound, text_spelled}
 use Rattle.package.proofs.ItemRuns.{Got, got, got_run, lost_run}
@@ -60,6 +61,7 @@ parted words w ws e f g h k a s =
       numbered = text_allowed version v p (drop p words) g k;
       filed = sym (ap (files_in package_head) e ∙ one.files ∙ ap (files_in (text (Spelled version) v false (item 0 0))) (sym d) ∙ three.files ∙ ap (files_in (item 0 0)) (drop-drop (words_for v) p words));
       sound = s;
+      placed = sym (ap files_place e);
     }
 
 -- whatever the reader handed out first and second, if the rest is in order
@@ -99,25 +101,15 @@ fits_cap version bs h = grind (arith, nat_tests)
 pub row_found : (kind : TextKind) (bs : List ℕ) → allowed kind bs ≡ true → row_of kind (take 16 bs) ≡ Some (record { bytes = padded bs })
 row_found kind bs h = ap (row_of kind) (take_all 16 bs (fits_cap kind bs h)) ∙ ap (λ (b : Bool). cond b (Some (record { bytes = padded bs })) None) h
 
-pub name_found : (r : Option Name) (bs : List ℕ) → allowed name bs ≡ true → name_rows r ≡ row_of name (take 16 bs) → is_some r ≡ true
-name_found None bs h e = some_none (record { bytes = padded bs }) (sym (row_found name bs h) ∙ sym e)
-name_found (Some n) bs h e = refl
+pub text_found : {K : Type 0} {g : Kind K} (kind : TextKind) (r : Option (Text K g)) (bs : List ℕ) → allowed kind bs ≡ true → row_in r ≡ row_of kind (take 16 bs) → is_some r ≡ true
+text_found kind None bs h e = some_none (record { bytes = padded bs }) (sym (row_found kind bs h) ∙ sym e)
+text_found kind (Some n) bs h e = refl
 
-pub name_spelt : (n : Name) (bs : List ℕ) → allowed name bs ≡ true → Some n.row ≡ row_of name (take 16 bs) → name_text n ≡ bs
-name_spelt n bs h e =
-    let f : Some n.row ≡ Some (record { bytes = padded bs }) = e ∙ row_found name bs h in
+pub text_spelt : {K : Type 0} {g : Kind K} (kind : TextKind) (n : Text K g) (bs : List ℕ) → allowed kind bs ≡ true → Some n.row ≡ row_of kind (take 16 bs) → text_of n ≡ bs
+text_spelt kind n bs h e =
+    let f : Some n.row ≡ Some (record { bytes = padded bs }) = e ∙ row_found kind bs h in
     let g : n.row ≡ record { bytes = padded bs } = cc in
-    ap (λ (r : ShortText). spelt r.bytes) g ∙ padded_spelt name bs h
-
-pub version_found : (r : Option Version') (bs : List ℕ) → allowed version bs ≡ true → version_rows r ≡ row_of version (take 16 bs) → is_some r ≡ true
-version_found None bs h e = some_none (record { bytes = padded bs }) (sym (row_found version bs h) ∙ sym e)
-version_found (Some n) bs h e = refl
-
-pub version_spelt : (n : Version') (bs : List ℕ) → allowed version bs ≡ true → Some n.row ≡ row_of version (take 16 bs) → version_text n ≡ bs
-version_spelt n bs h e =
-    let f : Some n.row ≡ Some (record { bytes = padded bs }) = e ∙ row_found version bs h in
-    let g : n.row ≡ record { bytes = padded bs } = cc in
-    ap (λ (r : ShortText). spelt r.bytes) g ∙ padded_spelt version bs h
+    ap (λ (r : ShortText). spelt r.bytes) g ∙ padded_spelt kind bs h
 
 -- the reader's first answer, from the start of the words
 pub at_start : (start stage : Stage) (place : ℕ) (ws words : List ℕ) → ws ≡ words → place ≡ 0 → stage ≡ start → item_at stage place (drop place ws) ≡ item_at start 0 words

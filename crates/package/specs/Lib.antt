@@ -1,6 +1,8 @@
+pub mod Accepted
 pub mod Checks
+pub mod Files
 pub mod Items
 pub mod Packages
 pub mod Readings
-pub mod Spelt
+pub mod Wares
 pub mod Words

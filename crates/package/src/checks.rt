@@ -42,7 +42,7 @@ fn right_count(rule: TextRule, left: usize, count: usize) -> bool
         TextRule::Spelled(_) => count == left.min(3),
         TextRule::Free => {
             let least = if left <= 3 { 1 } else { 3 };
-            least <= count && count <= 3
+            (least..=3).contains(&count)
         }
     }
 }

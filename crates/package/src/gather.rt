@@ -1,66 +1,42 @@
-ghost use Rattle.std.specs.Prelude.{◌≡◌, ◌≤◌, [], ◌∷◌, ◌++◌, take};
+ghost use Rattle.std.specs.Prelude.{◌≡◌, ◌≤◌, ◌++◌, length, take};
 ghost use Rattle.std.specs.List.{flat_map};
-ghost use Rattle.base.specs.Named.{name_rows, version_rows, row_of};
+ghost use Rattle.base.specs.Named.{row_in, row_of};
 ghost use Rattle.package.specs.Words.{bytes};
-ghost use Rattle.package.specs.Spelt.{spelling};
 
-use crate::spelling::Spelling;
 use crate::word::Word;
-use base::{Name, TextKind, Version};
+use arrayvec::ArrayVec;
+use base::{Kind, Text};
 
-impl Spelling {
-    // One byte more, if there is room.
-    fn push(&mut self, b: u8)
-        requires { self.old.len ≤ 16 }
-        ensures text { spelling self.new ≡ take 16 (spelling self.old ++ b ∷ []) }
-        ensures fits { self.new.len ≤ 16 }
-    {
-        let n = self.len;
-        if n < 16 {
-            self.bytes[n] = b;
-            self.len = n + 1;
-        }
-    }
+// The longest text, in bytes.
+const LONGEST: usize = 16;
 
-    // The bytes that a text word carries.
-    fn push_word(&mut self, word: Word)
-        requires { self.old.len ≤ 16 }
-        ensures text { spelling self.new ≡ take 16 (spelling self.old ++ bytes word.0) }
-        ensures fits { self.new.len ≤ 16 }
-    {
-        let n = word.byte_count().min(3);
-        let three = word.three_bytes();
-        for b in &three[0..n] {
-            self.push(*b);
-        }
+// The bytes that a text word carries, as far as there is room.
+fn push_word(gathered: &mut ArrayVec<u8, LONGEST>, word: Word)
+    requires { length gathered.old.items ≤ 16 }
+    ensures text { gathered.new.items ≡ take 16 (gathered.old.items ++ bytes word.0) }
+    ensures fits { length gathered.new.items ≤ 16 }
+{
+    let n = word.byte_count().min(3);
+    let three = word.three_bytes();
+    for b in &three[0..n] {
+        let _ = gathered.try_push(*b);
     }
 }
 
 // The first sixteen bytes of a text.
-fn gather(text: &[u32]) -> Spelling
-    ensures text { spelling result ≡ take 16 (flat_map bytes text.now) }
-    ensures fits { result.len ≤ 16 }
+fn gather(text: &[u32]) -> ArrayVec<u8, LONGEST>
+    ensures { result.items ≡ take 16 (flat_map bytes text.now) }
 {
-    let mut spelling = Spelling {
-        bytes: [0; 16],
-        len: 0,
-    };
+    let mut gathered = ArrayVec::new();
     for w in text {
-        spelling.push_word(Word(*w));
+        push_word(&mut gathered, Word(*w));
     }
-    spelling
+    gathered
 }
 
-pub fn name_of(text: &[u32]) -> Option<Name>
-    ensures { name_rows result ≡ row_of TextKind.Name (take 16 (flat_map bytes text.now)) }
+// The name, or the version, that a text spells; nothing where its first sixteen bytes are none.
+pub fn spelled<K: Kind>(text: &[u32]) -> Option<Text<K>>
+    ensures { row_in result ≡ row_of K.KIND (take 16 (flat_map bytes text.now)) }
 {
-    let Spelling { bytes, len } = gather(text);
-    Name::new(&bytes[0..len])
-}
-
-pub fn version_of(text: &[u32]) -> Option<Version>
-    ensures { version_rows result ≡ row_of TextKind.Version (take 16 (flat_map bytes text.now)) }
-{
-    let Spelling { bytes, len } = gather(text);
-    Version::new(&bytes[0..len])
+    Text::new(gather(text).as_slice())
 }

@@ -2,6 +2,7 @@
 #![tactic(auto)]
 
 mod checks;
+mod files;
 mod gather;
 mod items;
 mod package;
@@ -10,10 +11,10 @@ mod parts;
 mod reader;
 mod reading;
 mod rules;
-mod spelling;
 mod texts;
 mod word;
 
+pub use files::{File, Files};
 pub use items::{Item, Items, Stage, Step};
 pub use package::Package;
 pub use reading::{read_name, read_package};

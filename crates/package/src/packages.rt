@@ -1,17 +1,52 @@
-ghost use Rattle.std.specs.Prelude.{◌≡◌};
+ghost use Rattle.std.specs.Prelude.{◌≡◌, ◌≤◌, length};
+ghost use Rattle.std.specs.Iterator.{YieldsFirstBy, item_count};
+ghost use Rattle.package.specs.Files.{ware_of, files_left, files_of};
 
-use crate::items::{Items, Stage};
+use crate::files::{File, Files};
+use crate::items::{Item, Items, Stage};
 use crate::package::Package;
 
-impl Package {
-    // The files of the package, in the words that it was read from.
-    pub fn files<'a>(&self, words: &'a [u32]) -> Items<'a>
-        ensures { (result.words.now ≡ words.now) × (result.place ≡ self.now.first_file) × (result.stage ≡ Stage.Files 0 0) }
+impl<'a> Package<'a> {
+    // The files of the package, in the order of their paths.
+    pub fn files(&self) -> Files<'a>
+        ensures start { (result.items.words.now ≡ self.now.words.now) × (result.items.place ≡ self.now.first_file) × (result.items.stage ≡ Stage.Files 0 0) }
+        ensures files { files_left result ≡ files_of self.now }
+        ensures few { length (files_left result) ≤ 24 }
     {
-        Items {
-            words,
-            place: self.first_file,
-            stage: Stage::Files { count: 0, floor: 0 },
+        Files {
+            items: Items {
+                words: self.words,
+                place: self.first_file,
+                stage: Stage::Files { count: 0, floor: 0 },
+            },
         }
+    }
+}
+
+impl<'a> Iterator for Files<'a> {
+    type Item = File<'a>;
+
+    ghost next_gives = { YieldsFirstBy ware_of files_left };
+
+    ghost remaining = { item_count files_left };
+
+    fn next(&mut self) -> Option<File<'a>> {
+        let Ok(step) = self.items.next() else {
+            return None;
+        };
+        let Item::File {
+            kind,
+            path,
+            content,
+        } = step.item
+        else {
+            return None;
+        };
+        self.items = step.rest;
+        Some(File {
+            kind,
+            path,
+            content,
+        })
     }
 }

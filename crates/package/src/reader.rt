@@ -17,21 +17,23 @@ impl<'a> Items<'a> {
     pub fn of_package(words: &'a [u32]) -> Items<'a>
         ensures { (result.words.now ≡ words.now) × (result.place ≡ 0) × (result.stage ≡ Stage.Package) }
     {
-        Items {
-            words,
-            place: 0,
-            stage: Stage::Package,
-        }
+        Items::from_start(words, Stage::Package)
     }
 
     // The one item of a name alone.
     pub fn of_name(words: &'a [u32]) -> Items<'a>
         ensures { (result.words.now ≡ words.now) × (result.place ≡ 0) × (result.stage ≡ Stage.NameAlone) }
     {
+        Items::from_start(words, Stage::NameAlone)
+    }
+
+    fn from_start(words: &'a [u32], stage: Stage) -> Items<'a>
+        ensures { (result.words.now ≡ words.now) × (result.place ≡ 0) × (result.stage ≡ stage) }
+    {
         Items {
             words,
             place: 0,
-            stage: Stage::NameAlone,
+            stage,
         }
     }
 

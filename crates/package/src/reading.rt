@@ -1,9 +1,10 @@
 ghost use Rattle.std.specs.Prelude.{◌≡◌, Some, MatchResult};
 ghost use Rattle.package.specs.Checks.{refusal};
 ghost use Rattle.package.specs.Items.{due_at, left_from, part_of, part_words, told};
-ghost use Rattle.package.specs.Readings.{Alone, Naming, Parted, Reading, package_refusal, name_refusal};
+ghost use Rattle.package.specs.Accepted.{package_refusal, name_refusal};
+ghost use Rattle.package.specs.Readings.{Alone, Naming, Parted, Reading};
 
-use crate::gather::{name_of, version_of};
+use crate::gather::spelled;
 use crate::items::{Item, Items, Stage};
 use crate::package::Package;
 use crate::parts::Parts;
@@ -51,15 +52,16 @@ fn read_parts(words: &[u32]) -> Result<Parts<'_>, Refusal>
 }
 
 // The package in these words, or their first fault.
-pub fn read_package(words: &[u32]) -> Result<Package, Refusal>
+pub fn read_package(words: &[u32]) -> Result<Package<'_>, Refusal>
     ensures { MatchResult result (λ p. Reading words.now p) (λ e. package_refusal words.now ≡ Some e) }
 {
     let parts = read_parts(words)?;
-    let name = name_of(parts.name).unwrap();
-    let version = version_of(parts.version).unwrap();
+    let name = spelled(parts.name).unwrap();
+    let version = spelled(parts.version).unwrap();
     Ok(Package {
         name,
         version,
+        words,
         first_file: parts.first_file,
     })
 }
@@ -78,5 +80,5 @@ pub fn read_name(words: &[u32]) -> Result<Name, Refusal>
     ensures { MatchResult result (λ n. Naming words.now n) (λ e. name_refusal words.now ≡ Some e) }
 {
     let text = read_alone(words)?;
-    Ok(name_of(text).unwrap())
+    Ok(spelled(text).unwrap())
 }

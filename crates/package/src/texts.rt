@@ -17,10 +17,10 @@ pub fn skip_text(
     ensures fault { told result ≡ text_refusal rule left begun place (drop place words.now) }
     ensures behind { IfOk result (λ p. (p ≡ place + words_for left) × (p ≤ length words.now)) }
 {
-    if place >= words.len() {
+    let Some(word) = words.get(place) else {
         return Err(Refusal::in_words(Reason::EndsEarly, place));
-    }
-    let word = Word(words[place]);
+    };
+    let word = Word(*word);
     if let Some(reason) = text_fault(rule, left, begun, word) {
         return Err(Refusal::in_words(reason, place));
     }

@@ -1,5 +1,5 @@
 use base::Refusal;
-use package::{Item, Package, Step, read_name, read_package};
+use package::{read_name, read_package};
 
 // How many cases were tried, and the first that came out otherwise than expected.
 #[derive(Clone, Copy)]
@@ -32,27 +32,12 @@ pub(crate) const fn at(number: u8, place: usize, layer: u8) -> Expected {
     }
 }
 
-// How many files the reader hands out.
-fn file_count(package: &Package, words: &[u32]) -> usize {
-    let mut items = package.files(words);
-    for n in 0..words.len() {
-        let Ok(Step { item, rest, .. }) = items.next() else {
-            return n;
-        };
-        let Item::File { .. } = item else {
-            return n;
-        };
-        items = rest;
-    }
-    words.len()
-}
-
 fn is_package(words: &[u32], name: &[u8], version: &[u8], files: usize) -> bool {
     match read_package(words) {
         Ok(package) => {
             package.name.as_bytes() == name
                 && package.version.as_bytes() == version
-                && file_count(&package, words) == files
+                && package.files().count() == files
         }
         Err(_) => false,
     }
@@ -65,15 +50,8 @@ fn is_name(words: &[u32], name: &[u8]) -> bool {
     }
 }
 
-fn package_refused(words: &[u32], expected: Expected) -> bool {
-    match read_package(words) {
-        Ok(_) => false,
-        Err(refusal) => expected.is(refusal),
-    }
-}
-
-fn name_refused(words: &[u32], expected: Expected) -> bool {
-    match read_name(words) {
+fn is_refused<T: Drop>(answer: Result<T, Refusal>, expected: Expected) -> bool {
+    match answer {
         Ok(_) => false,
         Err(refusal) => expected.is(refusal),
     }
@@ -108,7 +86,7 @@ impl Tally {
 
     // The words are no package, and this is their first fault.
     pub(crate) fn refused(&mut self, title: &'static str, words: &[u32], expected: Expected) {
-        self.note(title, package_refused(words, expected));
+        self.note(title, is_refused(read_package(words), expected));
     }
 
     // The words are this name alone.
@@ -118,6 +96,6 @@ impl Tally {
 
     // The words are no name alone, and this is their first fault.
     pub(crate) fn no_name(&mut self, title: &'static str, words: &[u32], expected: Expected) {
-        self.note(title, name_refused(words, expected));
+        self.note(title, is_refused(read_name(words), expected));
     }
 }

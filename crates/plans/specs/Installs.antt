@@ -4,17 +4,17 @@ use Rattle.base.specs.declared.texts.ShortText.{ShortText}
 use Rattle.base.specs.declared.files.FileKind.TheVariants.{Plain}
 use Rattle.host.specs.declared.calls.Script.TheVariants.{Preinst, Postinst, Prerm, Postrm}
 use Rattle.host.specs.declared.calls.Action.TheVariants.{Install, Upgrade, AbortInstall, AbortUpgrade, FailedUpgrade}
-use Rattle.host.specs.declared.line.ArgumentRow.TheVariants.{Version, Nothing}
+use Rattle.host.specs.declared.calls.Argument.TheVariants.{Version, Nothing}
 use Rattle.status.specs.declared.rows.Flag.TheVariants.{Ok, Reinstreq}
 use Rattle.status.specs.declared.rows.State.{State}
 use Rattle.status.specs.declared.rows.State.TheVariants.{ConfigFiles, HalfInstalled, Unpacked, HalfConfigured, Installed}
 use Rattle.status.specs.declared.rows.Owned.{Owned}
 use Rattle.store.specs.Sides.{Sides}
-use Rattle.steps.specs.declared.files.Tally.{Tally}
+use Rattle.package.specs.Wares.{Ware}
 use Rattle.steps.specs.declared.pass.Pass.TheVariants.{Clear}
 use Rattle.steps.specs.declared.pass.Unwind.TheVariants.{PutBack}
 use Rattle.steps.specs.Steps.{discarded}
-use Rattle.steps.specs.Wares.{Ware, lay_all, unwind_all}
+use Rattle.steps.specs.Wares.{Tally, lay_all, unwind_all}
 use Rattle.steps.specs.Goods.{Goods, carried_at}
 use Rattle.steps.specs.Owners.{own_sides}
 use Rattle.plans.specs.declared.calls.Outcome.TheVariants.{Done, Stopped}

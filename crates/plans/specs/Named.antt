@@ -7,8 +7,8 @@ use Rattle.host.specs.declared.calls.Script.{Script}
 use Rattle.host.specs.declared.calls.Script.TheVariants.{Postinst, Prerm, Postrm}
 use Rattle.host.specs.declared.calls.Action.{Action}
 use Rattle.host.specs.declared.calls.Action.TheVariants.{Configure, Remove, Purge, AbortRemove}
-use Rattle.host.specs.declared.line.ArgumentRow.{ArgumentRow}
-use Rattle.host.specs.declared.line.ArgumentRow.TheVariants.{Version, Null, Nothing}
+use Rattle.host.specs.declared.calls.Argument.{Argument}
+use Rattle.host.specs.declared.calls.Argument.TheVariants.{Version, Null, Nothing}
 use Rattle.status.specs.declared.rows.Flag.{Flag}
 use Rattle.status.specs.declared.rows.Flag.TheVariants.{Ok, Reinstreq}
 use Rattle.status.specs.declared.rows.State.{State}
@@ -25,7 +25,7 @@ use Rattle.plans.specs.Plans.{Ask, Plan, done, ask}
 use Rattle.plans.specs.Moments.{Row, After}
 
 -- a script of the version v of the package n
-abbrev pub asks : ShortText → ShortText → Script → Action → ArgumentRow → Ask
+abbrev pub asks : ShortText → ShortText → Script → Action → Argument ShortText → Ask
 asks n v s a g = record { name = n; version = v; script = s; action = a; argument = g }
 
 -- the same record with another flag and state
@@ -33,7 +33,7 @@ abbrev pub turned : Row → Flag → State → Option Row
 turned r g s = Some (record { flag = g; state = s; version = r.version; configured = r.configured })
 
 -- the configured version, or the null argument
-abbrev pub or_null : Option ShortText → ArgumentRow
+abbrev pub or_null : Option ShortText → Argument ShortText
 or_null None = Null
 or_null (Some v) = Version v
 

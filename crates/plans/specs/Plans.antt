@@ -4,7 +4,7 @@ use Rattle.base.specs.declared.texts.ShortText.{ShortText}
 use Rattle.host.specs.declared.calls.Script.{Script}
 use Rattle.host.specs.declared.calls.Action.{Action}
 use Rattle.host.specs.declared.calls.Call.{Call}
-use Rattle.host.specs.declared.line.ArgumentRow.{ArgumentRow}
+use Rattle.host.specs.declared.calls.Argument.{Argument}
 use Rattle.host.specs.declared.line.Line.{Line}
 use Rattle.host.specs.Hosts.{argument_row, works}
 
@@ -15,7 +15,7 @@ pub record Ask : Type 0 where
   pub version : ShortText
   pub script : Script
   pub action : Action
-  pub argument : ArgumentRow
+  pub argument : Argument ShortText
 
 abbrev pub asked : Call → Ask
 asked c = record { name = c.name.row; version = c.version.row; script = c.script; action = c.action; argument = argument_row c.argument }

@@ -5,10 +5,10 @@ use Rattle.base.specs.declared.reasons.Reason.{Reason}
 use Rattle.base.specs.declared.reasons.Reason.TheVariants.{TraceFull, RecordsFull, OwnedByOther, KindDiffers, NoRecord, WrongState, OwnersFull}
 use Rattle.base.specs.declared.reasons.Refusal.{Refusal}
 use Rattle.base.specs.Refusals.{state_refusal}
-use Rattle.package.specs.Readings.{package_refusal, name_refusal}
+use Rattle.package.specs.Accepted.{package_refusal, name_refusal}
 use Rattle.status.specs.declared.rows.Owned.{Owned}
 use Rattle.store.specs.Sides.{Sides}
-use Rattle.steps.specs.Wares.{Ware}
+use Rattle.package.specs.Wares.{Ware}
 use Rattle.steps.specs.Goods.{Goods, goods_in, name_row_in}
 use Rattle.books.specs.Limits.{records_most, owners_most}
 use Rattle.books.specs.Owners.{any_of, foreign_at, differs_at, fresh_count}

@@ -6,4 +6,5 @@ mod noted;
 mod rows;
 
 pub use laws::empty_tables;
-pub use rows::{Flag, Noted, Owned, Record, State};
+pub use noted::{note_version, noted_version};
+pub use rows::{Flag, Owned, Record, State};

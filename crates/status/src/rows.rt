@@ -23,22 +23,16 @@ pub enum State {
     Installed,
 }
 
-// A version, or none: then the text is all zero, so that equal values are equal rows.
-#[derive(Clone, Copy)]
-pub struct Noted {
-    pub there: bool,
-    pub text: ShortText,
-}
-
 // What is recorded of a package. Rows are plain data; `Sound` of specs/Rows.antt says which of them are records.
 #[derive(Clone, Copy)]
 pub struct Record {
     pub name: ShortText,
     pub flag: Flag,
     pub state: State,
-    pub version: Noted,
+    // plain data, like the name: nothing here says that the text is a version
+    pub version: Option<ShortText>,
     // the version that was configured last
-    pub configured: Noted,
+    pub configured: Option<ShortText>,
 }
 
 impl Element for Record {

@@ -4,7 +4,8 @@ use Rattle.std.proofs.lemmas.Bool.{eqb-true, eqb-false, ne_eqb, cond-false, fals
 use Rattle.store.specs.Sides.{Sides, change}
 use Rattle.steps.specs.declared.pass.Unwind.{Unwind}
 use Rattle.steps.specs.Steps.{room_for}
-use Rattle.steps.specs.Wares.{Ware, lay_all, unwound, unwind_all, Distinct}
+use Rattle.package.specs.Wares.{Ware}
+use Rattle.steps.specs.Wares.{lay_all, unwound, unwind_all, Distinct}
 use Rattle.steps.specs.Goods.{carried_at, laid_at, unwound_at}
 use Rattle.steps.proofs.Restores.{Apart, over_it, outcome}
 

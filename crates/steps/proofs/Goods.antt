@@ -2,25 +2,27 @@
 use Rattle.std.proofs.Common.{◌≡◌, ℕ, zero, suc, ◌+◌, ◌≤◌, Bool, true, false, cond, List, [], ◌∷◌, map, length, take, drop, None, sym, refl, ap, ◌∙◌, ap₂, le_refl, arith}
 use lib.Seq.{take-append_seam, drop-append_seam}
 use Rattle.std.proofs.lemmas.Bool.{ne_eqb}
-use Rattle.base.specs.declared.name.Name.{Name}
+use Rattle.base.specs.Named.{Name}
 use Rattle.base.specs.declared.texts.ShortText.{ShortText}
 use Rattle.base.specs.declared.texts.TextKind.{TextKind}
 use Rattle.base.specs.declared.texts.TextKind.TheVariants.{Name as name, Version as version}
 use Rattle.base.specs.Texts.{holds, padded, spelt}
 use Rattle.base.proofs.Rows.{held, same_row}
 use Rattle.package.specs.declared.package.Package.{Package}
-use Rattle.package.specs.declared.items.Items.{Items}
-use Rattle.package.specs.Items.{left_from}
 use Rattle.package.specs.Words.{content_length, file_kind, path, is_end}
 use Rattle.package.specs.Checks.{item, nothing, contents, refusal}
 use Rattle.package.specs.Packages.{Carried, Rising, text_words, text_in, behind_text, files_in, package_in, name_in}
-use Rattle.package.specs.Readings.{Reading, Naming, package_refusal}
+use Rattle.package.specs.Accepted.{package_refusal}
+use Rattle.package.specs.Files.{files_of}
+use Rattle.package.specs.Readings.{Naming}
 use Rattle.package.proofs.Tests.{refusal_none}
 use Rattle.encoding.proofs.Decodes.{content_decodes}
 use Rattle.encoding.proofs.Exact.{accepted_encoded}
 use Rattle.steps.specs.Goods.{stored, row_holding, name_row_in, goods_in}
-use Rattle.steps.specs.Wares.{Ware, wares, files_of, Distinct}
-use Rattle.steps.proofs.Readings.{passed_over}
+use Rattle.package.specs.Wares.{Ware, wares}
+use Rattle.package.proofs.Handing.{passed_over}
+use Rattle.package.proofs.Placed.{reading_of}
+use Rattle.steps.specs.Wares.{Distinct}
 use Rattle.steps.proofs.Restores.{Apart}
 
 -- the files in words without a fault: their contents are the words of the bytes that are read
@@ -50,15 +52,11 @@ files_stored (suc m) (w ∷ ws) count floor place l h =
         ap₂ (λ (t : List ℕ) (xs : List Ware). record { kind = file_kind w; path = path w; words = t } ∷ xs) taken
         (passed_over n ws ∙ ap (wares 0) left ∙ ih rest (omega arith) d.run ∙ ap (map stored) (sym d.same))
 
-pub files_read : (words : List ℕ) (p : Package) → Reading words p → files_of p words ≡ (goods_in words).files
-files_read words p reading =
-    let ws = drop p.first_file words in
+pub files_read : (p : Package) → files_of p ≡ (goods_in p.words.now).files
+files_read p =
+    let reading = reading_of p in
+    let ws = drop p.first_file p.words.now in
     files_stored (length ws) ws 0 0 p.first_file (le_refl (length ws)) reading.sound ∙ ap (map stored) reading.filed
-
--- the reader of a package's files hands out just these
-pub files_there : (items : Items) (words : List ℕ) (p : Package) → items.words.now ≡ words → items.place ≡ p.first_file → Reading words p
-    → wares 0 (left_from items) ≡ (goods_in words).files
-files_there items words p ew ep reading = ap₂ (λ (n : ℕ) (ws : List ℕ). wares 0 (drop n ws)) ep ew ∙ files_read words p reading
 
 -- a row is told by its text
 row_told : (kind : TextKind) (row : ShortText) (text : List ℕ) → holds kind row.bytes ≡ true → spelt row.bytes ≡ text → row ≡ row_holding text
@@ -67,12 +65,11 @@ row_told kind row text h e = same_row row (row_holding text) (sym (held kind row
 pub naming_row : (words : List ℕ) (n : Name) → Naming words n → n.row ≡ name_row_in words
 naming_row words n naming = row_told name n.row (name_in words) n.allowed naming.named
 
-pub goods_read : (words : List ℕ) (p : Package) → Reading words p
-    → goods_in words ≡ record { name = p.name.row; version = p.version.row; files = files_of p words }
-goods_read words p reading =
-    let en = row_told name p.name.row _ p.name.allowed reading.named in
-    let ev = row_told version p.version.row _ p.version.allowed reading.versioned in
-    let ef = files_read words p reading in
+pub goods_read : (p : Package) → goods_in p.words.now ≡ record { name = p.name.row; version = p.version.row; files = files_of p }
+goods_read p =
+    let en = row_told name p.name.row _ p.name.allowed p.named in
+    let ev = row_told version p.version.row _ p.version.allowed p.versioned in
+    let ef = files_read p in
     sym (λ i. record { name = en i; version = ev i; files = ef i })
 
 -- paths that rise are no path twice
@@ -88,3 +85,7 @@ rising_distinct floor (f ∷ fs) r = (above f.path (f.path + 1) fs (le_refl (f.p
 
 pub goods_distinct : (words : List ℕ) → package_refusal words ≡ None → Distinct (goods_in words).files
 goods_distinct words h = rising_distinct 0 (package_in words).files (accepted_encoded words h).0.rising
+
+-- a package carries no path twice
+pub files_distinct : (p : Package) → Distinct (goods_in p.words.now).files
+files_distinct p = goods_distinct p.words.now (reading_of p).accepted

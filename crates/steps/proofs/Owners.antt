@@ -1,5 +1,5 @@
 -- Sets of paths, and a pass over the owned paths.
-use Rattle.std.proofs.Common.{◌≡◌, ℕ, zero, suc, ◌+◌, ◌<◌, ◌≤◌, Bool, true, false, cond, ◌||◌, eqb, ltb, List, [], ◌∷◌, length, get_or, drop, replicate, is_some, Some, None, fold, Option, sym, refl, ap, ◌∙◌, subst, ap₂}
+use Rattle.std.proofs.Common.{◌≡◌, ℕ, zero, suc, ◌+◌, ◌<◌, ◌≤◌, Bool, true, false, cond, ◌||◌, eqb, ltb, List, [], ◌∷◌, length, get_or, drop, replicate, is_some, Some, None, fold, Option, sym, refl, ap, ◌∙◌, subst}
 use Rattle.std.proofs.lemmas.List.{at_drop_more, at_drop_all}
 use Rattle.std.proofs.lemmas.Bool.{both_ways, eq-eqb, ne_eqb, or_right}
 use Rattle.base.specs.declared.texts.ShortText.{ShortText}
@@ -8,7 +8,9 @@ use Rattle.table.specs.Rows.{under}
 use Rattle.table.proofs.Heads.{rising_parts}
 use Rattle.table.proofs.Looks.{look_missing}
 use Rattle.table.proofs.Meets.{meets_same, same_meets}
-use Rattle.table.specs.Orders.{numbers_total}
+use Rattle.std.specs.Prelude.{Decides}
+use Rattle.table.specs.Order.{by_bytes}
+use Rattle.table.specs.Orders.{numbers_total, names_total}
 use Rattle.table.proofs.Ranks.{under_stands}
 use Rattle.status.specs.declared.rows.Owned.{Owned}
 use Rattle.status.specs.Tables.{owner_of}
@@ -16,34 +18,33 @@ use Rattle.store.specs.Sides.{Sides, change}
 use Rattle.steps.specs.declared.pass.Pass.{Pass}
 use Rattle.steps.specs.Goods.{carried_at}
 use Rattle.steps.specs.Owners.{no_path, with_path, own_sides, paths_rise}
-use Rattle.steps.specs.Wares.{Ware}
+use Rattle.package.specs.Wares.{Ware}
 
 pub unmarked_at : (n q : ℕ) → get_or (replicate n false) q false ≡ false
 unmarked_at zero q = refl
 unmarked_at (suc n) zero = refl
 unmarked_at (suc n) (suc q) = unmarked_at n q
 
--- the paths of files, one file more
-pub add_none : (q : ℕ) (ys : List Ware) (m : ℕ → Bool) → ys ≡ [] → m q ≡ (is_some (carried_at q ys) || m q)
-add_none q ys m e = sym (ap (λ (zs : List Ware). is_some (carried_at q zs) || m q) e)
+-- the paths of files: at the start, one file more, and at the end
+pub paths_start : (q : ℕ) (xs : List Ware) (m : ℕ → Bool) → m ≡ no_path → (is_some (carried_at q xs) || m q) ≡ is_some (carried_at q xs)
+paths_start q xs m z = ap (λ (n : ℕ → Bool). is_some (carried_at q xs) || n q) z ∙ go (is_some (carried_at q xs))
+  where
+    go : (t : Bool) → (t || false) ≡ t
+    go true = refl
+    go false = refl
 
-pub add_more : (q : ℕ) (x : Ware) (xs ys : List Ware) (m m₁ m₂ : ℕ → Bool) → ys ≡ x ∷ xs → m₁ ≡ with_path x.path m → m₂ q ≡ (is_some (carried_at q xs) || m₁ q)
-    → m₂ q ≡ (is_some (carried_at q ys) || m q)
-add_more q x xs ys m m₁ m₂ e a b =
-    b ∙ ap (λ (n : ℕ → Bool). is_some (carried_at q xs) || n q) a ∙ go (eqb q x.path)
+pub paths_turn : (q : ℕ) (x : Ware) (xs ys : List Ware) (m m₁ : ℕ → Bool) → ys ≡ x ∷ xs → m₁ ≡ with_path x.path m
+    → (is_some (carried_at q xs) || m₁ q) ≡ (is_some (carried_at q ys) || m q)
+paths_turn q x xs ys m m₁ e a =
+    ap (λ (n : ℕ → Bool). is_some (carried_at q xs) || n q) a ∙ go (eqb q x.path)
     ∙ sym (ap (λ (zs : List Ware). is_some (carried_at q zs) || m q) e)
   where
     go : (t : Bool) → (is_some (carried_at q xs) || cond t true (m q)) ≡ (is_some (cond t (Some x) (carried_at q xs)) || m q)
     go true = or_right (is_some (carried_at q xs)) true refl
     go false = refl
 
-pub add_first : (q : ℕ) (xs ys : List Ware) (m : ℕ → Bool) (marked : Bool) → xs ≡ ys → m ≡ no_path → marked ≡ (is_some (carried_at q xs) || m q) → marked ≡ is_some (carried_at q ys)
-add_first q xs ys m marked e z b =
-    b ∙ ap₂ (λ (zs : List Ware) (n : ℕ → Bool). is_some (carried_at q zs) || n q) e z ∙ go (is_some (carried_at q ys))
-  where
-    go : (t : Bool) → (t || false) ≡ t
-    go true = refl
-    go false = refl
+pub paths_end : (q : ℕ) (ys : List Ware) (m : ℕ → Bool) → ys ≡ [] → m q ≡ (is_some (carried_at q ys) || m q)
+paths_end q ys m e = sym (ap (λ (zs : List Ware). is_some (carried_at q zs) || m q) e)
 
 -- one owner more
 abbrev pub own_step : Pass → ShortText → (ℕ → Bool) → (ℕ → Sides) → Owned → ℕ → Sides
@@ -82,3 +83,12 @@ own_closed pass n except (o ∷ os) f r q =
     go false e u =
         ap (λ (t : Bool). own_sides n (except q) pass (owner_of q os) (cond t (own_sides n (except o.path) pass (Some o) (f q)) (f q)))
         (ne_eqb q o.path (λ s. both_ways (meets ltb o.path q) e (same_meets numbers_total o.path q (sym s))))
+
+-- two tests that decide one thing are one test
+pub both_decide : {X : Type 0} (p q : Bool) → Decides p X → Decides q X → p ≡ q
+both_decide true q d e = sym (e.1 (d.0 refl))
+both_decide false true d e = d.1 (e.0 refl)
+both_decide false false d e = refl
+
+pub names_meet : (a b : ShortText) → Decides (meets by_bytes a b) (a ≡ b)
+names_meet a b = (meets_same names_total a b, same_meets names_total a b)

@@ -7,11 +7,11 @@ use Rattle.base.specs.declared.files.FileKind.{FileKind}
 use Rattle.base.specs.declared.files.FileKind.TheVariants.{Plain, Conffile}
 use Rattle.store.specs.Files.{File}
 use Rattle.store.specs.Sides.{Sides, side_of, change}
-use Rattle.steps.specs.declared.files.Tally.{Tally}
 use Rattle.steps.specs.declared.pass.Unwind.{Unwind}
 use Rattle.steps.specs.declared.pass.Unwind.TheVariants.{PutBack}
 use Rattle.steps.specs.Steps.{refuge, in_way, set_aside, laid, room_for, put_back}
-use Rattle.steps.specs.Wares.{Ware, one_if, more, lay_all, unwound, unwind_all, Distinct, Clean}
+use Rattle.package.specs.Wares.{Ware}
+use Rattle.steps.specs.Wares.{Tally, one_if, more, lay_all, unwound, unwind_all, Distinct, Clean}
 
 -- at one path
 abbrev over : FileKind → Sides → File → File → Sides

@@ -6,7 +6,8 @@ use Rattle.package.specs.Packages.{Carried, text_words, name_in, version_in, pac
 use Rattle.store.specs.Sides.{Sides}
 use Rattle.steps.specs.declared.pass.Unwind.{Unwind}
 use Rattle.steps.specs.Steps.{laid}
-use Rattle.steps.specs.Wares.{Ware, unwound}
+use Rattle.package.specs.Wares.{Ware}
+use Rattle.steps.specs.Wares.{unwound}
 
 -- the file as a store keeps it: its content as text words
 abbrev pub stored : Carried → Ware

@@ -1,35 +1,22 @@
--- The files of a package as a store keeps them, and what is done with all of them.
-use Rattle.std.specs.Prelude.{◌≡◌, ℕ, zero, suc, ◌+◌, ◌<◌, Bool, true, false, cond, List, [], ◌∷◌, length, take, drop, Some, None, Ok, Err, Option, Result, ◌==◌}
+-- What is done with all files of a package.
+use Rattle.std.specs.Prelude.{◌≡◌, ℕ, ◌+◌, Bool, true, false, cond, List, [], ◌∷◌, None, Ok, Err, Result, ◌==◌}
 use Rattle.std.specs.List.{AllByRecursion}
 use Rattle.base.specs.declared.files.FileKind.{FileKind}
-use Rattle.package.specs.declared.package.Package.{Package as Contained}
-use Rattle.package.specs.declared.items.Items.{Items}
-use Rattle.package.specs.declared.items.Stage.{Stage}
-use Rattle.package.specs.declared.items.Stage.TheVariants.{Package, NameAlone, Version, Files, Done}
-use Rattle.package.specs.Words.{content_length, file_kind, path, is_end}
-use Rattle.package.specs.Checks.{refusal}
-use Rattle.package.specs.Items.{due_at, left_from}
+use Rattle.package.specs.Wares.{Ware}
 use Rattle.store.specs.Sides.{Sides, side_of, change}
-use Rattle.steps.specs.declared.files.Tally.{Tally}
-use Rattle.steps.specs.declared.files.NextFile.{NextFile}
 use Rattle.steps.specs.declared.token.Before.{Before}
 use Rattle.steps.specs.declared.pass.Unwind.{Unwind}
 use Rattle.steps.specs.declared.pass.Unwind.TheVariants.{PutBack, Discard}
 use Rattle.steps.specs.Steps.{refuge, in_way, set_aside, laid, room_for, put_back, discarded}
 
--- a file with the words of its content
-pub record Ware : Type 0 where
-  pub kind : FileKind
-  pub path : ℕ
-  pub words : List ℕ
-
--- the files in words, up to the end word; the words of a content are passed over
-abbrev pub wares : ℕ → List ℕ → List Ware
-wares passing [] = []
-wares zero (w ∷ ws) =
-    cond (is_end w) []
-    (record { kind = file_kind w; path = path w; words = take (content_length w) ws } ∷ wares (content_length w) ws)
-wares (suc n) (w ∷ ws) = wares n ws
+-- what came of laying files, one by one
+pub record Tally : Type 0 where
+  -- the store took each of them
+  pub all : Bool
+  -- how many were laid, with the one that was refused
+  pub touched : ℕ
+  -- how many files were set aside
+  pub aside : ℕ
 
 abbrev pub one_if : Bool → ℕ
 one_if true = 1
@@ -66,35 +53,6 @@ Distinct (x ∷ xs) = AllByRecursion (λ y. (y.path == x.path) ≡ false) xs × 
 -- nothing is set aside where these files go
 abbrev pub Clean : List Ware → (ℕ → Sides) → Type 0
 Clean xs f = AllByRecursion (λ x. side_of (refuge x.kind) (f x.path) ≡ None) xs
-
--- a reader that stands before a file or the end, and has no fault before it
-abbrev pub Filing : Stage → Type 0
-Filing Package = ⊥
-Filing NameAlone = ⊥
-Filing (Version len) = ⊥
-Filing (Files count floor) = Unit {0}
-Filing Done = ⊥
-
-pub record Ready (items : Items) : Type 0 where
-  pub filing : Filing items.stage
-  pub sound : refusal (due_at items.stage) items.place (left_from items) ≡ None
-
--- the next file of a reader, if there is one
-abbrev pub ware_of : NextFile → Ware
-ware_of x = record { kind = x.kind; path = x.path; words = x.content.now }
-
-abbrev pub Reads : Items → Option NextFile → Type 0
-Reads items None = wares 0 (left_from items) ≡ []
-Reads items (Some x) = (wares 0 (left_from items) ≡ ware_of x ∷ wares 0 (left_from x.rest)) × Ready x.rest
-
--- it stands behind the file
-abbrev pub Onward : Items → Option NextFile → Type 0
-Onward items None = Unit {0}
-Onward items (Some x) = (items.place < length items.words.now) × (items.place < x.rest.place) × (length x.rest.words.now ≡ length items.words.now)
-
--- the files of a package, in the words that it was read from
-abbrev pub files_of : Contained → List ℕ → List Ware
-files_of new words = wares 0 (drop new.first_file words)
 
 -- what laying them answers, and leaves
 abbrev pub Lays : ℕ → ℕ → List Ware → (ℕ → Sides) → Result Before Before → (ℕ → Sides) → Type 0

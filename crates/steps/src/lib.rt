@@ -3,23 +3,19 @@
 
 mod carrying;
 mod files;
-mod laying;
 mod owning;
 mod pass;
 mod path_set;
 mod path_sets;
-mod reading;
 mod sides;
 mod token;
 mod tokens;
-mod unwinding;
 
 pub use carrying::carried_paths;
-pub use files::{Laid, NextFile};
+pub use files::Laid;
 pub use owning::{pass_owned, same_name};
 pub use pass::{Pass, Unwind};
 pub use path_set::PathSet;
-pub use reading::next_file;
 pub use sides::{discard, lay, pass_over, put_back};
 pub use token::{Before, Past};
 pub use tokens::lay_all;

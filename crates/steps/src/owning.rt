@@ -14,7 +14,7 @@ use store::api::Store;
 pub fn same_name(a: ShortText, b: ShortText) -> bool
     ensures { result ≡ same_name a b }
 {
-    !a.before(&b) && !b.before(&a)
+    a == b
 }
 
 fn is_passed(owned: Owned, name: ShortText, except: &PathSet) -> bool

@@ -1,15 +1,18 @@
 -- What a found key and a changed list of rows say of the table.
-use Rattle.std.proofs.Common.{◌≡◌, ℕ, ◌<◌, ◌≤◌, Bool, true, List, length, get_or, set, ap, ◌∙◌, subst, arith, length-set}
+use Rattle.std.proofs.Common.{◌≡◌, ℕ, ◌<◌, Bool, true, List, length, get_or, set, take, sym, ap, ◌∙◌, arith, length-set, length-take-le}
 use Rattle.std.specs.List.{insert, remove}
+use Rattle.std.proofs.Math.Seq.{take-set-lt}
+use Rattle.std.proofs.lemmas.List.{get_or-take}
 use Rattle.std.proofs.lemmas.List.Edits.{length-insert, length-remove}
+use Rattle.table.specs.declared.key.Element as element
+use Rattle.table.specs.declared.key.Key as key
 use Rattle.table.specs.declared.table.Table.{Table}
 use Rattle.table.specs.Order.{Total}
 use Rattle.table.specs.Rows.{rising, Stands, Missing, lookup}
 use Rattle.table.specs.Spots.{rank}
-use Rattle.table.specs.Answers.{live, room, Sorted, Found, Absent, Entered, Replaced, Removed}
+use Rattle.table.specs.Answers.{live, room, Found, Absent, Entered, Replaced, Removed}
 use Rattle.table.proofs.Meets.{self_meets}
 use Rattle.table.proofs.Ranks.{rank_within, stands_within, stands_from}
-use Rattle.table.proofs.Rises.{rising_inserted, rising_removed, rising_set}
 use Rattle.table.proofs.Looks.{look_missing, look_stands, only_inserted, only_removed, only_set}
 
 module _ {E K : Type 0} {below : K → K → Bool} {same : K → K → Type 0} (total : Total below same) (keyed : E → K) where
@@ -23,40 +26,48 @@ module _ {E K : Type 0} {below : K → K → Bool} {same : K → K → Type 0} (
   pub absent : (k : K) (xs : List E) → Missing below keyed k xs → Absent below keyed k xs
   absent k xs m = record { missing = m; row = look_missing total keyed k xs m }
 
-  pub entered : (e : E) (t t' : Table E K) (i : ℕ) (k : K) → Sorted below keyed t → k ≡ keyed e → i ≡ rank below keyed k (live t) → Absent below keyed k (live t)
-      → length (live t) < room t → t'.len ≤ room t' → live t' ≡ insert (live t) i e → Entered below keyed e t i t'
-  entered e t t' i k s ke at no_row f w is =
-      let a = subst (λ q. Absent below keyed q (live t)) ke no_row in
-      let p : i ≡ rank below keyed (keyed e) (live t) = at ∙ ap (λ q. rank below keyed q (live t)) ke in
-      record {
-        new = a;
-        fits = f;
-        rows = is;
-        order = (w, ap (rising below keyed) (is ∙ ap (λ n. insert (live t) n e) p) ∙ rising_inserted total keyed e (live t) s.1 a.missing);
-        count = ap length is ∙ length-insert (live t) i e (omega (arith, rank_within below keyed (keyed e) (live t)));
-        law = λ q. ap (lookup below keyed q) is ∙ only_inserted total keyed e (live t) i a.missing q;
-      }
+module _ {E K : Type 0} {g : element.Ghosts E K} {h : key.Ghosts K} (t : Table E K g h) where
+  -- `len` counts the rows in use
+  pub live_len : length (live t) ≡ t.len
+  live_len = length-take-le t.len t.rows.now t.within
 
-  pub replaced : (e : E) (t t' : Table E K) (i : ℕ) (x : E) (k : K) → Sorted below keyed t → k ≡ keyed e → Found below keyed k (live t) i → x ≡ get_or (live t) i x
-      → t'.len ≤ room t' → live t' ≡ set (live t) i e → Replaced below keyed e t x t' i
-  replaced e t t' i x k s ke there at w is =
-      let f = subst (λ q. Found below keyed q (live t) i) ke there in
-      record {
-        stood = f;
-        was = at;
-        rows = is;
-        order = (w, ap (rising below keyed) is ∙ rising_set total keyed (live t) i e f.stands s.1);
-        count = ap length is ∙ length-set (live t) i e;
-        law = λ q. ap (lookup below keyed q) is ∙ only_set total keyed e (live t) i s.1 f.stands q;
-      }
+  -- what is read of the memory, and what is written over it, at a place in use
+  pub live_at : (i : ℕ) (x : E) → i < length (live t) → x ≡ get_or t.rows.now i x → x ≡ get_or (live t) i x
+  live_at i x lt at = at ∙ sym (get_or-take t.len t.rows.now i x (omega (arith, live_len)))
 
-  pub removed_key : (k : K) (t t' : Table E K) (i : ℕ) (x : E) → Sorted below keyed t → Found below keyed k (live t) i → x ≡ get_or (live t) i x
-      → t'.len ≤ room t' → live t' ≡ remove (live t) i → Removed below keyed k t x t' i
-  removed_key k t t' i x s f at w is = record {
+  pub live_set : (i : ℕ) (e : E) (rows : List E) → i < length (live t) → rows ≡ set t.rows.now i e → take t.len rows ≡ set (live t) i e
+  live_set i e rows lt is = ap (take t.len) is ∙ take-set-lt t.len t.rows.now i e (omega (arith, live_len))
+
+module _ {E K : Type 0} {g : element.Ghosts E K} {h : key.Ghosts K} (total : Total h.below h.same) (t t' : Table E K g h) (i : ℕ) where
+  pub entered : (e : E) → i ≡ rank h.below g.keyed (g.keyed e) (live t) → Absent h.below g.keyed (g.keyed e) (live t) → length (live t) < room t
+      → live t' ≡ insert (live t) i e → Entered h.below g.keyed e t i t'
+  entered e at no_row f is = record {
+    new = no_row;
+    fits = f;
+    rows = is;
+    order = (t'.within, t'.order);
+    count = ap length is ∙ length-insert (live t) i e (omega (arith, rank_within h.below g.keyed (g.keyed e) (live t)));
+    law = λ q. ap (lookup h.below g.keyed q) is ∙ only_inserted total g.keyed e (live t) i no_row.missing q;
+  }
+
+  pub replaced : (e x : E) → Found h.below g.keyed (g.keyed e) (live t) i → x ≡ get_or (live t) i x → live t' ≡ set (live t) i e
+      → Replaced h.below g.keyed e t x t' i
+  replaced e x f at is = record {
     stood = f;
     was = at;
     rows = is;
-    order = (w, ap (rising below keyed) is ∙ rising_removed below keyed (live t) i s.1);
-    count = rw is (length-remove (live t) i (stands_within below keyed k (live t) i f.stands));
-    law = λ q. ap (lookup below keyed q) is ∙ only_removed total keyed k (live t) i s.1 f.stands q;
+    order = (t'.within, t'.order);
+    count = ap length is ∙ length-set (live t) i e;
+    law = λ q. ap (lookup h.below g.keyed q) is ∙ only_set total g.keyed e (live t) i t.order f.stands q;
+  }
+
+  pub removed : (k : K) (x : E) → Found h.below g.keyed k (live t) i → x ≡ get_or (live t) i x → live t' ≡ remove (live t) i
+      → Removed h.below g.keyed k t x t' i
+  removed k x f at is = record {
+    stood = f;
+    was = at;
+    rows = is;
+    order = (t'.within, t'.order);
+    count = rw is (length-remove (live t) i (stands_within h.below g.keyed k (live t) i f.stands));
+    law = λ q. ap (lookup h.below g.keyed q) is ∙ only_removed total g.keyed k (live t) i t.order f.stands q;
   }

@@ -1,15 +1,9 @@
 -- Rows at the front of a slice: what a move of them leaves there.
-use Rattle.std.proofs.Common.{◌≡◌, ℕ, zero, suc, ◌+◌, ◌-◌, ◌<◌, ◌≤◌, min, List, [], ◌∷◌, ◌++◌, length, take, drop, set, sym, refl, ap, ◌∙◌, subst, append_assoc, add-one, arith, length-append, length-drop, length-set, length-take-le, take-take, drop-drop, take-suc-set, take_at, drop_at}
-use native.Mathlib.Nat.{zero-min, min-zero, suc-min-suc}
+use Rattle.std.proofs.Common.{◌≡◌, ℕ, ◌+◌, ◌-◌, ◌<◌, ◌≤◌, List, [], ◌∷◌, ◌++◌, length, take, drop, set, sym, refl, ap, ◌∙◌, subst, append_assoc, add-one, arith, length-append, length-drop, length-set, length-take-le, take-take, drop-drop, take-suc-set, take_at, drop_at}
 use borrow.Rule.Slice.PartMut.{put_mid}
 use lib.Seq.{take-set-le, drop-append-le}
 use Rattle.std.specs.List.{insert, remove, between}
 use Rattle.std.proofs.lemmas.Slice.{between_is, take-put_mid}
-
-pub take_min : {X : Type 0} (n : ℕ) (xs : List X) → take (min n (length xs)) xs ≡ take n xs
-take_min zero xs = rw zero-min
-take_min (suc n) [] = rw min-zero
-take_min (suc n) (x ∷ xs) = rw suc-min-suc (ap (λ (ys : List _). x ∷ ys) (take_min n xs))
 
 -- the row e written at n, and the part from i to there turned by one
 pub opened : {X : Type 0} (rows : List X) (i n : ℕ) (e : X) (q : List X) → i ≤ n → n < length rows
@@ -46,9 +40,3 @@ closed rows i n q h le is =
     ∙ take_at (take i rows ++ drop 1 z) (take 1 z) (n - 1) lf
     ∙ ap (λ (v : List _). v ++ drop 1 z) (sym (take-take i n rows (omega arith)))
     ∙ ap (λ (v : List _). take i (take n rows) ++ v) (drop-drop 1 i (take n rows) ∙ ap (λ (m : ℕ). drop m (take n rows)) (add-one i))
-
-pub take_of_set : {X : Type 0} (n : ℕ) (xs : List X) (i : ℕ) (e : X) → take n (set xs i e) ≡ set (take n xs) i e
-take_of_set zero xs i e = refl
-take_of_set (suc n) [] i e = refl
-take_of_set (suc n) (x ∷ xs) zero e = refl
-take_of_set (suc n) (x ∷ xs) (suc i) e = ap (λ (ys : List _). x ∷ ys) (take_of_set n xs i e)

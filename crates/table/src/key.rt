@@ -3,6 +3,7 @@ ghost use Rattle.table.specs.Order.{Total};
 
 // A key. Its order is total: two keys neither of which is below the other are the same key.
 // What the same key is says each kind of key: the same value, or whatever compares alike.
+// It is not std's `Ord`, whose laws ask that keys that compare alike be equal by `==`, so that fewer types would be keys.
 pub trait Key: Copy {
     ghost below: { Self → Self → Bool };
 

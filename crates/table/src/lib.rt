@@ -4,6 +4,7 @@
 mod key;
 mod keys;
 mod laws;
+mod shifts;
 mod table;
 
 pub use key::{Element, Key};

@@ -1,15 +1,14 @@
 ghost use Rattle.std.specs.Prelude.{◌≡◌, []};
 ghost use Rattle.table.specs.Order.{by_bytes};
-ghost use Rattle.table.specs.Answers.{live, Sorted, Inserts};
+ghost use Rattle.table.specs.Answers.{live, Inserts};
 
 use crate::rows::Record;
 use table::{Refused, Table};
 
-// A table of packages that carries its invariant, so that its calls ask nothing.
+// A table of packages by name.
 #[derive(Drop)]
 pub struct Directory<'a> {
     records: Table<'a, Record>,
-    ghost sorted: { Sorted by_bytes (λ r. r.name) records },
 }
 
 impl<'a> Directory<'a> {

@@ -1,49 +1,52 @@
 -- Pieces of text, one after the other.
-use Rattle.std.proofs.Common.{◌≡◌, ℕ, ◌+◌, ◌<◌, ◌≤◌, Bool, true, false, List, [], ◌++◌, length, take, sym, refl, ap, ◌∙◌, subst, append_assoc, append-nil, arith, length-append, length-take-le, take-take, take_at}
-use Rattle.std.proofs.lemmas.Bool.{true≢false}
-use Rattle.writer.specs.Fills.{Tried, GoesOn}
+use Rattle.std.proofs.Common.{◌≡◌, ℕ, ◌+◌, ◌-◌, ◌≤◌, List, ◌++◌, take, drop, Ok, Err, Result, sym, ap, ◌∙◌, append_assoc, arith, length-append, length-take-le, take-take, take_at}
+use Rattle.std.proofs.lemmas.Bool.{false≢true}
+use Rattle.std.proofs.lemmas.List.{drop-drop}
+use Rattle.std.specs.Result.{IsErr}
+use Rattle.writer.specs.declared.page.Page.{Page}
+use Rattle.writer.specs.declared.page.Full.{Full}
+use Rattle.writer.specs.Pages.{Wrote, Stopped, Writes}
 
--- one text more, where all before it did fit
-fits_more : (text out out' : List ℕ) (n n' : ℕ) → n' ≡ n + length text → take n' out' ≡ take n out ++ text → length out' ≡ length out → GoesOn true true text out n out' n'
-fits_more text out out' n n' e t l = record {
-  on = λ w out₀ n₀ h k. (
-    omega (arith, e, k.0, length-append w text),
-    t ∙ ap (λ (x : List ℕ). x ++ text) k.1 ∙ append_assoc (take n₀ out₀) w text,
-    l ∙ k.2,
-  );
-}
-
-pub fits_go : (f : Bool) → f ≡ true → (text out out' : List ℕ) (n n' : ℕ) → n' ≡ n + length text → take n' out' ≡ take n out ++ text → length out' ≡ length out → GoesOn f true text out n out' n'
-fits_go true h text out out' n n' e t l = fits_more text out out' n n' e t l
-fits_go false h text out out' n n' e t l = absurd (true≢false (sym h))
-
--- no room: the bytes before the start are as they were
-pub no_room : (f : Bool) (text out : List ℕ) (n : ℕ) → (f ≡ true → length out < n + length text) → GoesOn f false text out n out n
-no_room true text out n f = record {
-  on = λ w out₀ n₀ h k.
-      let le : n₀ ≤ n = omega (arith, k.0) in (
-        omega (arith, f refl, k.0, k.2, length-append w text),
-        sym (take-take n₀ n out le) ∙ ap (take n₀) k.1 ∙ take_at (take n₀ out₀) w n₀ (length-take-le n₀ out₀ h),
-        k.2,
-      );
-}
-no_room false text out n f = record { on = λ w out₀ n₀ h k. (omega (arith, k.0, length-append w text), k.1, k.2) }
-
-pub too_far : (f : Bool) (text out : List ℕ) (n : ℕ) → length out < n → GoesOn f false text out n out n
-too_far f text out n h = no_room f text out n (λ e. omega (arith, h))
+-- what lies behind the end of two pieces
+rest_on : (xs ys zs : List ℕ) (n n' : ℕ) → n ≤ n' → drop n' zs ≡ drop n' ys → drop n ys ≡ drop n xs → drop n' zs ≡ drop n' xs
+rest_on xs ys zs n n' h e k =
+    let m : n + (n' - n) ≡ n' = omega arith in
+    let at : (l : List ℕ) → drop n' l ≡ drop (n' - n) (drop n l) = λ l. ap (λ (i : ℕ). drop i l) (sym m) ∙ sym (drop-drop (n' - n) n l) in
+    e ∙ at ys ∙ ap (drop (n' - n)) k ∙ sym (at xs)
 
 -- a piece behind a piece
-pub then_on : {f g r : Bool} {a b o o₁ o₂ : List ℕ} {n n₁ n₂ : ℕ} → GoesOn f g a o n o₁ n₁ → GoesOn g r b o₁ n₁ o₂ n₂ → GoesOn f r (a ++ b) o n o₂ n₂
-then_on {r = r} {a = a} {b = b} {o₂ = o₂} {n₂ = n₂} p q = record {
-  on = λ w out₀ n₀ h k.
-      let s = q.on (w ++ a) out₀ n₀ h (p.on w out₀ n₀ h k) in
-      subst (λ (x : List ℕ). Tried r x out₀ n₀ o₂ n₂) (append_assoc w a b) s;
+pub wrote_both : {a b : List ℕ} {p p' p'' : Page} → Wrote a p p' → Wrote b p' p'' → Wrote (a ++ b) p p''
+wrote_both {a = a} {b = b} {p = p} {p' = p'} {p'' = p''} f g = record {
+  count = omega (arith, f.count, g.count, length-append a b);
+  front = g.front ∙ ap (λ (x : List ℕ). x ++ b) f.front ∙ append_assoc (take p.count p.bytes.now) a b;
+  rest = rest_on p.bytes.now p'.bytes.now p''.bytes.now p'.count p''.count (omega (arith, g.count)) g.rest f.rest;
+  room = g.room ∙ f.room;
+  same_reference = g.same_reference ∙ f.same_reference;
 }
 
--- the same piece, by an equal text
-pub same_text : {f r : Bool} {a b o o' : List ℕ} {n n' : ℕ} → a ≡ b → GoesOn f r a o n o' n' → GoesOn f r b o n o' n'
-same_text {f = f} {r = r} {o = o} {o' = o'} {n = n} {n' = n'} e g = subst (λ (x : List ℕ). GoesOn f r x o n o' n') e g
+pub second_stopped : {a b : List ℕ} {p p' p'' : Page} → Wrote a p p' → Stopped b p' p'' → Stopped (a ++ b) p p''
+second_stopped {a = a} {b = b} {p = p} {p' = p'} {p'' = p''} f g = record {
+  lacks = omega (arith, f.count, f.room, g.lacks, length-append a b);
+  front = sym (take-take p.count p'.count p''.bytes.now (omega (arith, f.count)))
+      ∙ ap (take p.count) (g.front ∙ f.front)
+      ∙ take_at (take p.count p.bytes.now) a p.count (length-take-le p.count p.bytes.now p.fits);
+  room = g.room ∙ f.room;
+  same_reference = g.same_reference ∙ f.same_reference;
+}
 
--- all pieces from a start
-pub from_start : {r : Bool} {w out out' : List ℕ} {n n' : ℕ} → n ≤ length out → GoesOn true r w out n out' n' → Tried r w out n out' n'
-from_start {w = w} {out = out} {n = n} h g = g.on [] out n h (omega arith, sym (append-nil (take n out)), refl)
+pub first_stopped : {a : List ℕ} {p p' : Page} (b : List ℕ) → Stopped a p p' → Stopped (a ++ b) p p'
+first_stopped {a = a} b f = record {
+  lacks = omega (arith, f.lacks, length-append a b);
+  front = f.front;
+  room = f.room;
+  same_reference = f.same_reference;
+}
+
+-- the same of a text that may not fit
+pub then_on : {r : Result (Unit {0}) Full} {a b : List ℕ} {p p' p'' : Page} → Wrote a p p' → Writes r b p' p'' → Writes r (a ++ b) p p''
+then_on {r = Ok u} f g = record { whole = wrote_both f g.whole; short = tt }
+then_on {r = Err e} f g = record { whole = tt; short = second_stopped f g.short }
+
+pub stops : {r : Result (Unit {0}) Full} {a : List ℕ} {p p' : Page} → IsErr r → Stopped a p p' → Writes r a p p'
+stops {r = Ok u} h f = absurd (false≢true h)
+stops {r = Err e} h f = record { whole = tt; short = f }

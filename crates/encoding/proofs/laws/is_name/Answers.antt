@@ -1,8 +1,6 @@
-use Rattle.encoding.proofs.Exact.{name_yes, name_no}
+use Rattle.encoding.proofs.Exact.{by_reading, name_yes, name_no}
 use Rattle.encoding.proofs.laws.is_name.Goals as goal
 
-pub returns-in-Ok : goal.returns-in-Ok
-returns-in-Ok c = name_yes c.args.words.now c.in-Ok.ensures.accepted
-
-pub returns-in-Err : goal.returns-in-Err
-returns-in-Err c = name_no c.args.words.now _ c.in-Err.ensures
+pub returns : goal.returns
+returns c =
+    by_reading c.read_name.result c.is_ok.result c.is_ok.ensures.value c.read_name.ensures (λ r h. name_yes c.args.words.now h.accepted) (λ e h. name_no c.args.words.now e h)

@@ -1,8 +1,6 @@
-use Rattle.encoding.proofs.Exact.{package_yes, package_no}
+use Rattle.encoding.proofs.Exact.{by_reading, package_yes, package_no}
 use Rattle.encoding.proofs.laws.is_package.Goals as goal
 
-pub returns-in-Ok : goal.returns-in-Ok
-returns-in-Ok c = package_yes c.args.words.now c.in-Ok.ensures.accepted
-
-pub returns-in-Err : goal.returns-in-Err
-returns-in-Err c = package_no c.args.words.now _ c.in-Err.ensures
+pub returns : goal.returns
+returns c =
+    by_reading c.read_package.result c.is_ok.result c.is_ok.ensures.value c.read_package.ensures (λ r h. package_yes c.args.words.now h.accepted) (λ e h. package_no c.args.words.now e h)

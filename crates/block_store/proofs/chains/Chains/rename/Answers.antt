@@ -1,12 +1,9 @@
-use Rattle.std.proofs.Common.{refl}
-use Rattle.block_store.proofs.ChainFacts.{renamed_kept, renamed_files}
+use Rattle.std.proofs.Common.{◌∙◌, arith}
+use Rattle.std.proofs.lemmas.List.Sorted.{sum_by-IsPermutation}
+use Rattle.block_store.specs.declared.cells.Chain.{Chain}
 use Rattle.block_store.proofs.chains.Chains.rename.Goals as goal
 
-pub returns : goal.returns
-returns c =
+pub invariant_of-self : goal.invariant_of-self
+invariant_of-self c =
     let m = c.args.self.now in
-    record {
-      sound = renamed_kept m.dir.now m.blocks.now c.args.from c.args.to c.requires.sound c.requires.from c.requires.to c.requires.apart c.requires.empty;
-      files = renamed_files m.dir.now m.blocks.now c.args.from c.args.to c.requires.sound c.requires.from c.requires.to c.requires.apart c.requires.empty;
-      units = refl;
-    }
+    record { linked = (c.swap.ensures.len ∙ m.linked.0, sum_by-IsPermutation (λ (e : Chain). e.blocks) _ _ c.swap.ensures.permutation ∙ m.linked.1, m.linked.2, grind arith, grind arith) }

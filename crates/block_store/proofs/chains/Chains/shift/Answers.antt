@@ -1,43 +1,33 @@
-use Rattle.std.proofs.Common.{◌≡◌, ◌+◌, ◌-◌, false, refl, ap, ◌∙◌, arith}
-use Rattle.std.proofs.lemmas.List.{length-set}
-use Rattle.block_store.specs.Chained.{chain_of}
-use Rattle.block_store.specs.declared.cells.Block.{Block}
-use Rattle.block_store.proofs.ChainFacts.{two_le, first_inside, at_from, at_to, at_other, shift_linked, shift_other, shift_content}
+use Rattle.std.proofs.Common.{arith}
+use Rattle.block_store.proofs.ChainFacts.{two_le, shift_linked, shift_other, shift_content}
 use Rattle.block_store.proofs.chains.Chains.shift.Goals as goal
 
-pub offset_bounds-self-source : goal.offset_bounds-self-source
-offset_bounds-self-source c = let m = c.args.self.now in omega (arith, first_inside m.dir.now m.blocks.now c.args.from c.requires.linked c.requires.from c.requires.some)
+pub offset_bounds-blocks-source : goal.offset_bounds-blocks-source
+offset_bounds-blocks-source c = omega (arith, c.args.self.now.linked.3 c.args.from 0 c.requires.from c.requires.some)
 
-pub bounds-self-source : goal.bounds-self-source
-bounds-self-source c = let m = c.args.self.now in first_inside m.dir.now m.blocks.now c.args.from c.requires.linked c.requires.from c.requires.some
+pub bounds-blocks-source : goal.bounds-blocks-source
+bounds-blocks-source c = c.args.self.now.linked.3 c.args.from 0 c.requires.from c.requires.some
 
-pub offset_bounds-self-source-2 : goal.offset_bounds-self-source-2
-offset_bounds-self-source-2 c = let m = c.args.self.now in omega (arith, first_inside m.dir.now m.blocks.now c.args.from c.requires.linked c.requires.from c.requires.some)
+pub offset_bounds-blocks-source-2 : goal.offset_bounds-blocks-source-2
+offset_bounds-blocks-source-2 c = omega (arith, c.args.self.now.linked.3 c.args.from 0 c.requires.from c.requires.some)
 
-pub bounds-self-source-2 : goal.bounds-self-source-2
-bounds-self-source-2 c = let m = c.args.self.now in first_inside m.dir.now m.blocks.now c.args.from c.requires.linked c.requires.from c.requires.some
+pub bounds-blocks-source-2 : goal.bounds-blocks-source-2
+bounds-blocks-source-2 c = c.args.self.now.linked.3 c.args.from 0 c.requires.from c.requires.some
 
-pub overflow_add-self : goal.overflow_add-self
-overflow_add-self c = let m = c.args.self.now in omega (arith, c.requires.some, two_le m.dir.now m.blocks.now c.args.from c.args.to c.requires.linked c.requires.from c.requires.to c.requires.apart)
+pub overflow_add-dir : goal.overflow_add-dir
+overflow_add-dir c = let m = c.args.self.now in omega (arith, c.requires.some, two_le m c.args.from c.args.to c.requires.from c.requires.to c.requires.apart)
 
-pub returns : goal.returns
-returns c =
+pub invariant_of-self : goal.invariant_of-self
+invariant_of-self c =
     let m = c.args.self.now in
-    let dir = m.dir.now in
-    let bs = m.blocks.now in
-    let f = c.args.from in
-    let t = c.args.to in
-    let blk : Block = record { next = (chain_of m t).first; seen = false; words = c.args.words } in
-    let less : (chain_of m f).blocks - 1 + 1 ≡ (chain_of m f).blocks = omega (arith, c.requires.some) in
-    record {
-      linked = shift_linked dir bs f t _ _ blk c.requires.linked c.requires.from c.requires.to c.requires.apart c.requires.some refl c.requires.words refl less refl refl;
-      others = λ j p q jl. (
-        at_other dir bs f t _ _ blk c.requires.linked c.requires.from c.requires.to c.requires.apart c.requires.some refl c.requires.words refl less refl refl j p q,
-        shift_other dir bs f t _ _ blk c.requires.linked c.requires.from c.requires.to c.requires.apart c.requires.some refl c.requires.words refl less refl refl j p q jl,
-      );
-      less = ap (λ e. e.blocks + 1) (at_from dir bs f t _ _ blk c.requires.linked c.requires.from c.requires.to c.requires.apart c.requires.some refl c.requires.words refl less refl refl) ∙ less;
-      more = ap (λ e. e.blocks) (at_to dir bs f t _ _ blk c.requires.linked c.requires.from c.requires.to c.requires.apart c.requires.some refl c.requires.words refl less refl refl);
-      len = ap (λ e. e.len) (at_to dir bs f t _ _ blk c.requires.linked c.requires.from c.requires.to c.requires.apart c.requires.some refl c.requires.words refl less refl refl);
-      content = shift_content dir bs f t _ _ blk c.requires.linked c.requires.from c.requires.to c.requires.apart c.requires.some refl c.requires.words refl less refl refl;
-      units = length-set bs (chain_of m f).first _;
-    }
+    record { linked = shift_linked m c.args.from c.args.to c.args.words c.args.len c.requires.from c.requires.to c.requires.apart c.requires.some (omega arith) }
+
+pub returns-clause-others : goal.returns-clause-others
+returns-clause-others c =
+    let m = c.args.self.now in
+    shift_other m c.args.from c.args.to c.args.words c.args.len c.requires.from c.requires.to c.requires.apart c.requires.some (omega arith)
+
+pub returns-clause-content : goal.returns-clause-content
+returns-clause-content c =
+    let m = c.args.self.now in
+    shift_content m c.args.from c.args.to c.args.words c.args.len c.requires.from c.requires.to c.requires.apart c.requires.some (omega arith)

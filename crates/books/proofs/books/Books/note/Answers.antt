@@ -1,18 +1,18 @@
-use Rattle.std.proofs.Common.{sym, refl, arith, length-set, length-take}
-use Rattle.std.proofs.lemmas.List.{take_more_set}
-use Rattle.std.proofs.lemmas.Bool.{true≢false, lt-ltb}
+use Rattle.std.proofs.Common.{refl}
+use Rattle.host.specs.Traces.{lines_in, space}
+use Rattle.table.specs.Answers.{live}
+use Rattle.books.proofs.Notes.{noted}
 use Rattle.books.proofs.books.Books.note.Goals as goal
 
 pub returns : goal.returns
 returns c =
-    let trace = c.args.self.now.trace.now in
-    let used = c.args.self.now.used in
-    let line = c.args.line in
+    let b = c.args.self.now in
+    let n = noted c.args.line c.add.result c.is_ok.result b.trace c.add.new.self c.is_ok.ensures.value c.add.ensures in
     record {
-      told = sym (lt-ltb _ _ (simp length-take (omega arith)));
-      added = λ _. take_more_set trace used line c.if-self.false;
-      same = λ e. absurd (true≢false e);
+      told = n.told;
+      added = n.added;
+      same = λ e i. record { records = live b.records; owners = live b.owners; lines = lines_in (n.same e i); space = space (n.same e i) };
       records = refl;
       owners = refl;
-      space = length-set trace used line;
+      space = n.space;
     }

@@ -1,0 +1,27 @@
+ghost use Rattle.std.specs.Prelude.{◌≡◌, true, IfOk};
+ghost use Rattle.base.specs.Texts.{holds};
+
+use crate::kinds::Kind;
+use crate::texts::ShortText;
+use std::alloc::AllocError;
+use std::marker::PhantomData;
+
+// A text that keeps the rule of its kind. Only a constructor that checks the text makes one.
+#[derive_where(PartialEq, Eq)]
+pub struct Text<K: Kind> {
+    pub(crate) row: ShortText,
+    #[derive_where(skip)]
+    pub(crate) kind: PhantomData<K>,
+    ghost allowed: { holds K.KIND row.bytes ≡ true },
+}
+
+// Copied whatever the kind, which a derive would ask to be `Copy` too.
+impl<K: Kind> Clone for Text<K> {
+    fn clone(&self) -> Result<Self, AllocError>
+        ensures { IfOk result (λ copy. copy ≡ self.now) }
+    {
+        Ok(*self)
+    }
+}
+
+impl<K: Kind> Copy for Text<K> {}
