@@ -1,4 +1,3 @@
 mod Places
 mod Images
-mod Sounds
 mod Marks

@@ -1,24 +1,24 @@
 -- Slots of which only the `spare` is written.
-use Rattle.std.proofs.Common.{◌≡◌, ℕ, suc, ◌+◌, ◌-◌, ◌<◌, ◌≤◌, Bool, true, false, cond, not, ◌&&◌, ◌||◌, eqb, ltb, leb, List, [], ◌∷◌, map, length, get_or, take, set, Some, None, sum_by, count_by, sym, refl, ap, ◌∙◌, subst, inl, inr, arith}
-use mathlib.Core.Path.{fun_ext}
+use Rattle.std.proofs.Common.{◌≡◌, ℕ, suc, ◌+◌, ◌-◌, ◌<◌, ◌≤◌, Bool, true, false, cond, ◌&&◌, eqb, ltb, leb, List, [], ◌∷◌, length, get_or, take, set, Option, Some, None, sum_by, count_by, sym, refl, ap, ◌∙◌, subst, inl, inr, arith}
 use Rattle.std.proofs.lemmas.List.{get_or-set_same, get_or-set_other, set_past, get_or-take, length-take, length-set, take_all}
 use Rattle.std.proofs.lemmas.List.Sums.{sum_by-cons, sum_by-set, sum_by_more, get_or-le-sum_by}
-use Rattle.std.proofs.lemmas.Bool.{cases_eq, cases_lt, cases_order, eqb-true, eq-eqb, ne_eqb, ltb-true, and_parts, and_from, and_right, both_ways}
+use Rattle.std.proofs.lemmas.Bool.{cases_eq, cases_lt, cases_order, eqb-true, eq-eqb, ne_eqb, ltb-true, and_parts}
 use Rattle.store.specs.Files.{key_count, longest}
-use Rattle.flat_store.specs.Images.{none, blank, entry_at, words_at, image_files, live, slot_at, Fits, units, Kept}
-use Rattle.flat_store.specs.Taking.{named, good, Whole, Damaged, markable, marked, unnamed, Marks, Free}
+use Rattle.flat_store.specs.Images.{blank, entry_at, words_at, slot_of, live, slot_at, Fits, units, Kept}
+use Rattle.flat_store.specs.Taking.{names, named, good_after, good, Whole, markable, marked, unnamed, Marks, Free}
 use Rattle.flat_store.specs.declared.cells.Entry.{Entry}
 use Rattle.flat_store.specs.declared.cells.Slot.{Slot}
-use Rattle.flat_store.proofs.Places.{live_key, live_free, slot_key, slot_free}
+use Rattle.flat_store.proofs.Images.{fits_same}
+use Rattle.flat_store.proofs.Places.{some_of, live_key, live_free, slot_key, slot_free}
 
 module _ (ss : List Slot) (i : ℕ) (s : Slot) where
-  pub spare_here : i < length ss → (get_or (set ss i s) i blank).spare ≡ s.spare
+  spare_here : i < length ss → (get_or (set ss i s) i blank).spare ≡ s.spare
   spare_here h = ap (λ x. x.spare) (get_or-set_same ss i s blank h)
 
-  pub spare_other : (p : ℕ) → (p ≡ i → ⊥) → (get_or (set ss i s) p blank).spare ≡ (get_or ss p blank).spare
+  spare_other : (p : ℕ) → (p ≡ i → ⊥) → (get_or (set ss i s) p blank).spare ≡ (get_or ss p blank).spare
   spare_other p h = ap (λ x. x.spare) (get_or-set_other ss i p s blank h)
 
-  pub spare_words : s.words ≡ words_at ss i → (p : ℕ) → words_at (set ss i s) p ≡ words_at ss p
+  spare_words : s.words ≡ words_at ss i → (p : ℕ) → words_at (set ss i s) p ≡ words_at ss p
   spare_words e p =
       elim (cases_eq p i) [
         | inl q ↦ elim (cases_lt i (length ss)) [
@@ -28,10 +28,7 @@ module _ (ss : List Slot) (i : ℕ) (s : Slot) where
         | inr a ↦ ap (λ x. x.words) (get_or-set_other ss i p s blank a)
       ]
 
-abbrev names : ℕ → Entry → Bool
-names p e = e.held && eqb e.slot p
-
-abbrev once : (Entry → Bool) → Entry → ℕ
+abbrev once : (Option Entry → Bool) → Option Entry → ℕ
 once t e = cond (t e) 1 0
 
 abbrev lack : Slot → ℕ
@@ -43,103 +40,76 @@ all_lack [] h = refl
 all_lack (s ∷ ss) h =
     sum_by-cons lack s ss ∙ omega (arith, ap (λ (n : ℕ). cond {A = ℕ} (eqb n 0) 1 0) (h 0 (omega arith)), all_lack ss (λ p l. h (suc p) (omega arith)))
 
-pub no_marks : (dir : List Entry) (ss : List Slot) → ((p : ℕ) → p < length ss → (get_or ss p blank).spare ≡ 0) → Marks dir ss 0
+pub no_marks : (dir : List (Option Entry)) (ss : List Slot) → ((p : ℕ) → p < length ss → (get_or ss p blank).spare ≡ 0) → Marks dir ss 0
 no_marks dir ss h = (h, omega (arith, all_lack ss h), (λ j l. absurd (omega arith)), λ j l. absurd (omega arith))
 
 -- an entry before k that names p is counted
-pub named_some : (dir : List Entry) (k j p : ℕ) → j < k → k ≤ length dir → (entry_at dir j).held ≡ true → (entry_at dir j).slot ≡ p → 1 ≤ named p (take k dir)
-named_some dir k j p jl kl on e =
-    let t : names p (entry_at dir j) ≡ true = and_from _ _ on (eq-eqb _ _ e) in
-    omega (arith, get_or-le-sum_by (once (names p)) (take k dir) j none (omega (arith, length-take k dir)), ap (once (names p)) (get_or-take k dir j none jl), ap (λ (b : Bool). cond {A = ℕ} b 1 0) t)
+named_some : (dir : List (Option Entry)) (k j p : ℕ) (e : Entry) → j < k → k ≤ length dir → entry_at dir j ≡ Some e → e.slot ≡ p → 1 ≤ named p (take k dir)
+named_some dir k j p e jl kl on q =
+    let t : names p (entry_at dir j) ≡ true = ap (names p) on ∙ eq-eqb _ _ q in
+    omega (arith, get_or-le-sum_by (once (names p)) (take k dir) j None (omega (arith, length-take k dir)), ap (once (names p)) (get_or-take k dir j None jl), ap (λ (b : Bool). cond {A = ℕ} b 1 0) t)
 
-module _ (dir : List Entry) (ss : List Slot) (k : ℕ) (long : length dir ≡ key_count) (kl : k < key_count) (marks : Marks dir ss k) where
-  abbrev e : Entry
-  e = entry_at dir k
+module _ (dir : List (Option Entry)) (ss : List Slot) (k : ℕ) (long : length dir ≡ key_count) (kl : k < key_count) (marks : Marks dir ss k) where
+  named_more : (p : ℕ) → named p (take (k + 1) dir) ≡ named p (take k dir) + cond (names p (entry_at dir k)) 1 0
+  named_more p = sum_by_more (once (names p)) dir k None (omega arith)
 
-  named_more : (p : ℕ) → named p (take (k + 1) dir) ≡ named p (take k dir) + cond (names p e) 1 0
-  named_more p = sum_by_more (once (names p)) dir k none (omega arith)
-
-  units_more : sum_by units (take (k + 1) dir) ≡ sum_by units (take k dir) + units e
-  units_more = sum_by_more units dir k none (omega arith)
-
-  -- what can be marked is good, and the other way round
-  good_is : good dir (length ss) k ≡ markable ss e
-  good_is = go (ltb e.slot (length ss)) refl
-    where
-      go : (b : Bool) → ltb e.slot (length ss) ≡ b → not e.held || (leb e.len longest && (b && eqb (named e.slot (take k dir)) 0)) ≡ not e.held || (leb e.len longest && (b && eqb (get_or ss e.slot blank).spare 0))
-      go true h = ap (λ (n : ℕ). not e.held || (leb e.len longest && eqb n 0)) (sym (marks.0 e.slot (ltb-true _ _ h)))
-      go false h = refl
+  units_more : sum_by units (take (k + 1) dir) ≡ sum_by units (take k dir) + units (entry_at dir k)
+  units_more = sum_by_more units dir k None (omega arith)
 
   below : (P : ℕ → Type 0) → ((j : ℕ) → j < k → P j) → P k → (j : ℕ) → j < k + 1 → P j
   below P h here j l = elim (cases_eq j k) [ inl q ↦ subst P (sym q) here | inr a ↦ h j (omega arith) ]
 
-  pub bad_entry : markable ss e ≡ false → Damaged dir (length ss) k
-  bad_entry h = (kl, marks.3, good_is ∙ h)
+  module _ (e : Entry) (on : entry_at dir k ≡ Some e) where
+    -- what can be marked is good, and the other way round
+    good_is : good dir (length ss) k ≡ markable ss e
+    good_is = ap (good_after (take k dir) (length ss)) on ∙ go (ltb e.slot (length ss)) refl
+      where
+        go : (b : Bool) → ltb e.slot (length ss) ≡ b → leb e.len longest && (b && eqb (named e.slot (take k dir)) 0) ≡ leb e.len longest && (b && eqb (get_or ss e.slot blank).spare 0)
+        go true h = ap (λ (n : ℕ). leb e.len longest && eqb n 0) (sym (marks.0 e.slot (ltb-true _ _ h)))
+        go false h = refl
 
-  -- an empty entry
-  pub skip_marks : e.held ≡ false → markable ss e ≡ true → Marks dir ss (k + 1)
-  skip_marks off ok = (
-    (λ p h. marks.0 p h ∙ omega (arith, named_more p, ap (λ (b : Bool). cond {A = ℕ} (b && eqb e.slot p) 1 0) off)),
-    omega (arith, marks.1, units_more, ap (λ (b : Bool). cond {A = ℕ} b 1 0) off),
-    below (λ (j : ℕ). Fits ss (entry_at dir j)) marks.2 (λ on. absurd (both_ways _ off on)),
-    below (λ (j : ℕ). good dir (length ss) j ≡ true) marks.3 (good_is ∙ ok),
-  )
+    -- an entry whose slot gets its mark
+    module _ (ok : true ≡ markable ss e) (fits : Fits ss (Some e)) where
+      abbrev mss : List Slot
+      mss = marked ss e.slot
 
-  -- an entry whose slot gets its mark
-  module _ (on : e.held ≡ true) (ok : markable ss e ≡ true) (fits : Fits ss e) where
-    abbrev mss : List Slot
-    mss = marked ss e.slot
+      there : (ltb e.slot (length ss) ≡ true) × (eqb (get_or ss e.slot blank).spare 0 ≡ true)
+      there = and_parts _ _ (and_parts (leb e.len longest) _ (sym ok)).1
 
-    there : (ltb e.slot (length ss) ≡ true) × (eqb (get_or ss e.slot blank).spare 0 ≡ true)
-    there =
-        let a : (leb e.len longest && (ltb e.slot (length ss) && eqb (get_or ss e.slot blank).spare 0)) ≡ true = sym (ap (λ (b : Bool). not b || (leb e.len longest && (ltb e.slot (length ss) && eqb (get_or ss e.slot blank).spare 0))) on) ∙ ok in
-        and_parts _ _ (and_parts _ _ a).1
+      in_range : e.slot < length ss
+      in_range = ltb-true _ _ there.0
 
-    in_range : e.slot < length ss
-    in_range = ltb-true _ _ there.0
+      was : (get_or ss e.slot blank).spare ≡ 0
+      was = eqb-true _ _ there.1
 
-    was : (get_or ss e.slot blank).spare ≡ 0
-    was = eqb-true _ _ there.1
+      marked_long : length mss ≡ length ss
+      marked_long = length-set ss e.slot _
 
-    marked_long : length mss ≡ length ss
-    marked_long = length-set ss e.slot _
+      marked_words : (p : ℕ) → words_at mss p ≡ words_at ss p
+      marked_words = spare_words ss e.slot _ refl
 
-    pub marked_words : (p : ℕ) → words_at mss p ≡ words_at ss p
-    marked_words = spare_words ss e.slot _ refl
+      marks_at : (p : ℕ) → p < length ss → (get_or mss p blank).spare ≡ named p (take (k + 1) dir)
+      marks_at p h =
+          elim (cases_eq p e.slot) [
+            | inl q ↦ (
+                let t : names p (entry_at dir k) ≡ true = ap (names p) on ∙ eq-eqb _ _ (sym q) in
+                ap (λ (x : ℕ). (get_or mss x blank).spare) q ∙ spare_here ss e.slot _ in_range
+                ∙ omega (arith, named_more p, marks.0 p h, ap (λ (b : Bool). cond {A = ℕ} b 1 0) t, ap (λ (x : ℕ). (get_or ss x blank).spare) q, was))
+            | inr a ↦ (
+                let t : names p (entry_at dir k) ≡ false = ap (names p) on ∙ ne_eqb _ _ (λ q. a (sym q)) in
+                spare_other ss e.slot _ p a ∙ marks.0 p h ∙ omega (arith, named_more p, ap (λ (b : Bool). cond {A = ℕ} b 1 0) t))
+          ]
 
-    marks_at : (p : ℕ) → p < length ss → (get_or mss p blank).spare ≡ named p (take (k + 1) dir)
-    marks_at p h =
-        elim (cases_eq p e.slot) [
-          | inl q ↦ (
-              let t : names p e ≡ true = and_from _ _ on (eq-eqb _ _ (sym q)) in
-              ap (λ (x : ℕ). (get_or mss x blank).spare) q ∙ spare_here ss e.slot _ in_range
-              ∙ omega (arith, named_more p, marks.0 p h, ap (λ (b : Bool). cond {A = ℕ} b 1 0) t, ap (λ (x : ℕ). (get_or ss x blank).spare) q, was))
-          | inr a ↦ (
-              let t : eqb e.slot p ≡ false = ne_eqb _ _ (λ q. a (sym q)) in
-              let u : names p e ≡ false = and_right _ _ t in
-              spare_other ss e.slot _ p a ∙ marks.0 p h ∙ omega (arith, named_more p, ap (λ (b : Bool). cond {A = ℕ} b 1 0) u))
-        ]
+      more_marks : Marks dir mss (k + 1)
+      more_marks = (
+        (λ p h. marks_at p (omega (arith, marked_long))),
+        omega (arith, marks.1, units_more, marked_long, ap units on, sum_by-set lack ss e.slot (record { spare = 1; words = words_at ss e.slot }) blank in_range, ap (λ (n : ℕ). cond {A = ℕ} (eqb n 0) 1 0) was),
+        (λ j l. fits_same ss mss marked_words (entry_at dir j) (below (λ (i : ℕ). Fits ss (entry_at dir i)) marks.2 (subst (λ (o : Option Entry). Fits ss o) (sym on) fits) j l)),
+        (λ j l. ap (λ (n : ℕ). good dir n j) marked_long ∙ below (λ (i : ℕ). good dir (length ss) i ≡ true) marks.3 (good_is ∙ sym ok) j l),
+      )
 
-    pub more_marks : Marks dir mss (k + 1)
-    more_marks = (
-      (λ p h. marks_at p (omega (arith, marked_long))),
-      omega (arith, marks.1, units_more, marked_long, ap (λ (b : Bool). cond {A = ℕ} b 1 0) on, sum_by-set lack ss e.slot (record { spare = 1; words = words_at ss e.slot }) blank in_range, ap (λ (n : ℕ). cond {A = ℕ} (eqb n 0) 1 0) was),
-      (λ j l h. let f = below (λ (i : ℕ). Fits ss (entry_at dir i)) marks.2 fits j l h in (f.0, subst (λ (ws : List ℕ). (entry_at dir j).len ≤ length ws) (sym (marked_words (entry_at dir j).slot)) f.1)),
-      (λ j l. ap (λ (n : ℕ). good dir n j) marked_long ∙ below (λ (i : ℕ). good dir (length ss) i ≡ true) marks.3 (good_is ∙ ok) j l),
-    )
-
-  -- one entry more
-  pub next_marks : (ss' : List Slot) (r : Bool) → r ≡ true → r ≡ markable ss e → ss' ≡ cond (r && e.held) (marked ss e.slot) ss → (r ≡ true → Fits ss e) → Marks dir ss' (k + 1) × ((p : ℕ) → words_at ss' p ≡ words_at ss p)
-  next_marks ss' r t ok is fits = go e.held refl
-    where
-      to : (b : Bool) → e.held ≡ b → ss' ≡ cond b (marked ss e.slot) ss
-      to b h = is ∙ ap (λ (q : Bool). cond (q && e.held) (marked ss e.slot) ss) t ∙ ap (λ (q : Bool). cond q (marked ss e.slot) ss) h
-
-      go : (b : Bool) → e.held ≡ b → Marks dir ss' (k + 1) × ((p : ℕ) → words_at ss' p ≡ words_at ss p)
-      go true h =
-          subst (λ (xs : List Slot). Marks dir xs (k + 1) × ((p : ℕ) → words_at xs p ≡ words_at ss p)) (sym (to true h)) (more_marks h (sym ok ∙ t) (fits t), marked_words h (sym ok ∙ t) (fits t))
-      go false h =
-          subst (λ (xs : List Slot). Marks dir xs (k + 1) × ((p : ℕ) → words_at xs p ≡ words_at ss p)) (sym (to false h)) (skip_marks h (sym ok ∙ t), λ p. refl)
+      pub next_marks : (ss' : List Slot) → ss' ≡ mss → Marks dir ss' (k + 1) × ((p : ℕ) → words_at ss' p ≡ words_at ss p)
+      next_marks ss' is = subst (λ (xs : List Slot). Marks dir xs (k + 1) × ((p : ℕ) → words_at xs p ≡ words_at ss p)) (sym is) (more_marks, marked_words)
 
 -- the list of the free slots, after the first p
 abbrev pub Listed : List Slot → List Slot → ℕ → ℕ → Type 0
@@ -151,23 +121,9 @@ Listed old ss p free =
     × ((i j : ℕ) → i < j → j < free → (get_or ss i blank).spare < (get_or ss j blank).spare)
     × ((q : ℕ) → words_at ss q ≡ words_at old q)
 
-pub list_none : (ss : List Slot) → Listed ss ss 0 0
-list_none ss = (refl, omega arith, (λ q h. refl), (λ i h. absurd (omega arith)), (λ i j h g. absurd (omega arith)), λ q. refl)
-
 module _ (old ss : List Slot) (p free : ℕ) (long : length ss ≡ length old) (pl : p < length old) (inv : Listed old ss p free) where
   lack_more : count_by unnamed (take (p + 1) old) ≡ count_by unnamed (take p old) + lack (get_or old p blank)
   lack_more = sum_by_more lack old p blank pl
-
-  pub list_skip : ((get_or ss p blank).spare ≡ 0 → ⊥) → Listed old ss (p + 1) free
-  list_skip h =
-      let t : eqb (get_or old p blank).spare 0 ≡ false = ne_eqb _ _ (λ e. h (inv.2 p (omega arith) ∙ e)) in (
-        omega (arith, inv.0, lack_more, ap (λ (b : Bool). cond {A = ℕ} b 1 0) t),
-        omega (arith, inv.1),
-        (λ q l. inv.2 q (omega arith)),
-        (λ i l. let f = inv.3 i l in (omega (arith, f.0), f.1)),
-        inv.4,
-        inv.5,
-      )
 
   module _ (s : Slot) (zero_here : (get_or ss p blank).spare ≡ 0) (spare : s.spare ≡ p) (words : s.words ≡ words_at ss free) where
     abbrev lss : List Slot
@@ -208,27 +164,26 @@ module _ (old ss : List Slot) (p free : ℕ) (long : length ss ≡ length old) (
     )
 
 -- A whole image with its free slots listed is sound.
-module _ (dir : List Entry) (ss old : List Slot) (free : ℕ) (long : length dir ≡ key_count) (same : length ss ≡ length old) (marks : Marks dir old key_count)
+module _ (dir : List (Option Entry)) (ss old : List Slot) (free : ℕ) (long : length dir ≡ key_count) (same : length ss ≡ length old) (marks : Marks dir old key_count)
     (count : free ≡ count_by unnamed old) (free_at : (i : ℕ) → i < free → Free old (get_or ss i blank).spare)
     (rising : (i j : ℕ) → i < j → j < free → (get_or ss i blank).spare < (get_or ss j blank).spare) (words : (p : ℕ) → words_at ss p ≡ words_at old p) where
   all : take key_count dir ≡ dir
   all = take_all key_count dir (omega arith)
 
   -- what a good entry says
-  fine : (k : ℕ) → k < key_count → (entry_at dir k).held ≡ true → ((entry_at dir k).slot < length old) × (named (entry_at dir k).slot (take k dir) ≡ 0)
-  fine k kl on =
-      let a : (leb (entry_at dir k).len longest && (ltb (entry_at dir k).slot (length old) && eqb (named (entry_at dir k).slot (take k dir)) 0)) ≡ true
-      = sym (ap (λ (b : Bool). not b || (leb (entry_at dir k).len longest && (ltb (entry_at dir k).slot (length old) && eqb (named (entry_at dir k).slot (take k dir)) 0))) on) ∙ marks.3 k kl in
-      let b = and_parts _ _ (and_parts _ _ a).1 in
+  fine : (k : ℕ) (e : Entry) → k < key_count → entry_at dir k ≡ Some e → (e.slot < length old) × (named e.slot (take k dir) ≡ 0)
+  fine k e kl on =
+      let a : good_after (take k dir) (length old) (Some e) ≡ true = sym (ap (good_after (take k dir) (length old)) on) ∙ marks.3 k kl in
+      let b = and_parts _ _ (and_parts (leb e.len longest) _ a).1 in
       (ltb-true _ _ b.0, eqb-true _ _ b.1)
 
-  two_keys : (j k : ℕ) → j < k → k < key_count → (entry_at dir j).held ≡ true → (entry_at dir k).held ≡ true → (entry_at dir j).slot ≡ (entry_at dir k).slot → ⊥
-  two_keys j k l kl on on' q = let h = named_some dir k j (entry_at dir k).slot l (omega arith) on q in let z = (fine k kl on').1 in omega arith
+  two_keys : (j k : ℕ) (e f : Entry) → j < k → k < key_count → entry_at dir j ≡ Some e → entry_at dir k ≡ Some f → e.slot ≡ f.slot → ⊥
+  two_keys j k e f l kl on on' q = let h = named_some dir k j f.slot e l (omega arith) on q in let z = (fine k f kl on').1 in omega arith
 
-  key_free : (k i : ℕ) → k < key_count → i < free → (entry_at dir k).held ≡ true → (entry_at dir k).slot ≡ (get_or ss i blank).spare → ⊥
-  key_free k i kl il on e =
+  key_free : (k i : ℕ) (e : Entry) → k < key_count → i < free → entry_at dir k ≡ Some e → e.slot ≡ (get_or ss i blank).spare → ⊥
+  key_free k i e kl il on q =
       let f = free_at i il in
-      let h = named_some dir key_count k (get_or ss i blank).spare kl (omega arith) on e in
+      let h = named_some dir key_count k (get_or ss i blank).spare e kl (omega arith) on q in
       let m = marks.0 (get_or ss i blank).spare f.0 in
       omega (arith, f.1)
 
@@ -239,8 +194,9 @@ module _ (dir : List Entry) (ss old : List Slot) (free : ℕ) (long : length dir
         | inr s ↦ elim s [ inl l ↦ (let r = rising i j l jl in absurd (omega arith)) | inr l ↦ (let r = rising j i l il in absurd (omega arith)) ]
       ]
 
-  key_on : (x : ℕ) → x < key_count → live dir free x ≡ true → (entry_at dir x).held ≡ true
-  key_on x h on = sym (live_key dir ss free x h) ∙ on
+  -- a live place is a key's, and has an entry, or one of the free list's
+  key_on : (x : ℕ) → x < key_count → live dir free x ≡ true → (e : Entry) × (entry_at dir x ≡ Some e) × (slot_at dir ss x ≡ e.slot)
+  key_on x h on = let s = some_of (entry_at dir x) (sym (live_key dir ss free x h) ∙ on) in (s.0, s.1, slot_key dir ss free x h ∙ ap slot_of s.1)
 
   free_on : (x : ℕ) → key_count ≤ x → live dir free x ≡ true → x - key_count < free
   free_on x h on = ltb-true _ _ (sym (live_free dir ss free x h) ∙ on)
@@ -248,24 +204,27 @@ module _ (dir : List Entry) (ss old : List Slot) (free : ℕ) (long : length dir
   inside : (x : ℕ) → live dir free x ≡ true → slot_at dir ss x < length ss
   inside x on =
       elim (cases_lt x key_count) [
-        | inl h ↦ omega (arith, slot_key dir ss free x h, (fine x h (key_on x h on)).0)
+        | inl h ↦ (let s = key_on x h on in omega (arith, (fine x s.0 h s.1).0, s.2))
         | inr h ↦ omega (arith, slot_free dir ss free x h, (free_at (x - key_count) (free_on x h on)).0)
       ]
 
   apart : (x y : ℕ) → live dir free x ≡ true → live dir free y ≡ true → slot_at dir ss x ≡ slot_at dir ss y → x ≡ y
   apart x y on on' q =
       elim (cases_lt x key_count) [
-        | inl h ↦ elim (cases_lt y key_count) [
-          | inl g ↦ (
-              let s : (entry_at dir x).slot ≡ (entry_at dir y).slot = sym (slot_key dir ss free x h) ∙ q ∙ slot_key dir ss free y g in
-              elim (cases_order x y) [
-                | inl r ↦ r
-                | inr o ↦ elim o [ inl l ↦ absurd (two_keys x y l g (key_on x h on) (key_on y g on') s) | inr l ↦ absurd (two_keys y x l h (key_on y g on') (key_on x h on) (sym s)) ]
-              ])
-          | inr g ↦ absurd (key_free x (y - key_count) h (free_on y g on') (key_on x h on) (sym (slot_key dir ss free x h) ∙ q ∙ slot_free dir ss free y g))
-        ]
+        | inl h ↦ (
+            let s = key_on x h on in
+            elim (cases_lt y key_count) [
+              | inl g ↦ (
+                  let t = key_on y g on' in
+                  let r : s.0.slot ≡ t.0.slot = sym s.2 ∙ q ∙ t.2 in
+                  elim (cases_order x y) [
+                    | inl e ↦ e
+                    | inr o ↦ elim o [ inl l ↦ absurd (two_keys x y s.0 t.0 l g s.1 t.1 r) | inr l ↦ absurd (two_keys y x t.0 s.0 l h t.1 s.1 (sym r)) ]
+                  ])
+              | inr g ↦ absurd (key_free x (y - key_count) s.0 h (free_on y g on') s.1 (sym s.2 ∙ q ∙ slot_free dir ss free y g))
+            ])
         | inr h ↦ elim (cases_lt y key_count) [
-          | inl g ↦ absurd (key_free y (x - key_count) g (free_on x h on) (key_on y g on') (sym (slot_key dir ss free y g) ∙ sym q ∙ slot_free dir ss free x h))
+          | inl g ↦ (let t = key_on y g on' in absurd (key_free y (x - key_count) t.0 g (free_on x h on) t.1 (sym t.2 ∙ sym q ∙ slot_free dir ss free x h)))
           | inr g ↦ (
               let r = two_free (x - key_count) (y - key_count) (free_on x h on) (free_on y g on') (sym (slot_free dir ss free x h) ∙ q ∙ slot_free dir ss free y g) in
               omega arith)
@@ -276,18 +235,10 @@ module _ (dir : List Entry) (ss old : List Slot) (free : ℕ) (long : length dir
   taken_kept = (
     long,
     omega (arith, marks.1, ap (sum_by units) all),
-    (λ k kl on. let f = marks.2 k kl on in (f.0, subst (λ (ws : List ℕ). (entry_at dir k).len ≤ length ws) (sym (words (entry_at dir k).slot)) f.1)),
+    (λ k kl. fits_same old ss words (entry_at dir k) (marks.2 k kl)),
     (inside, apart),
   )
 
--- slots with the same words hold the same files
-pub same_files : (dir : List Entry) (ss old : List Slot) → ((p : ℕ) → words_at ss p ≡ words_at old p) → image_files dir ss ≡ image_files dir old
-same_files dir ss old words = ap (λ g. map g dir) (fun_ext (λ e. ap (λ ws. cond e.held (Some (take e.len ws)) None) (words e.slot)))
-
 -- the end of the search for damage
-pub whole : (dir : List Entry) (ss : List Slot) (k n : ℕ) → k ≡ key_count → length ss ≡ n → Marks dir ss k → Whole dir n
+pub whole : (dir : List (Option Entry)) (ss : List Slot) (k n : ℕ) → k ≡ key_count → length ss ≡ n → Marks dir ss k → Whole dir n
 whole dir ss k n e l marks j jl = ap (λ (m : ℕ). good dir m j) (sym l) ∙ marks.3 j (omega arith)
-
--- no image is whole and damaged
-pub not_both : (dir : List Entry) (n k : ℕ) → Whole dir n → Damaged dir n k → ⊥
-not_both dir n k whole bad = both_ways (good dir n k) bad.2 (whole k bad.0)

@@ -1,2 +1,4 @@
 pub mod Images
+pub mod Rooms
+pub mod Stores
 pub mod Taking

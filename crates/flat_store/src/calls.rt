@@ -1,193 +1,102 @@
-ghost use Rattle.std.specs.Prelude.{◌≡◌, ◌*◌, ◌<◌, ◌≤◌, true, false, [], length, take, drop, if◌then◌else◌, Some, None, ◌≢◌, slice_set};
-ghost use Rattle.store.specs.Files.{key_count, longest, file_at, admits, moved, length_of, words_of};
-ghost use Rattle.flat_store.specs.Images.{Sound, files_in, held_at, units_in, words_at};
+ghost use Rattle.std.specs.Prelude.{◌≡◌, ◌<◌, length, IfSome};
+ghost use Rattle.std.proofs.Common.{lit≤, ◌∙◌};
+ghost use Rattle.std.proofs.lemmas.List.{length-map};
+ghost use Rattle.store.specs.Files.{key_count};
+ghost use Rattle.flat_store.specs.Images.{choice, entry_at, entry_file};
+ghost use Rattle.flat_store.specs.Rooms.{room_all};
+ghost use Rattle.flat_store.specs.Stores.{files_in, units_in};
 
-use crate::cells::{Entry, Slot};
-use crate::image::Image;
+use crate::cells::Entry;
+use crate::flat::FlatStore;
+use store::api::Store;
 use store::keys::{KEYS, LONGEST};
 
-// Copies the words into the slot, from its start.
-fn fill(slot: &mut Slot, words: &[u32])
-    requires { length words.now ≤ longest }
-    ensures words { take (length words.now) slot.new.words ≡ words.now }
-    ensures spare { slot.new.spare ≡ slot.old.spare }
-{
-    let n = words.len();
-    slot.words[0..n].copy_from_slice(words);
+// The words of a slot, all in one block.
+const BLOCK: usize = 32;
+
+impl FlatStore<'_> {
+    // The slot for a key's words, and how many slots are free then: that of its file, or else the last of the free ones.
+    fn choose(&self, key: usize) -> Option<(usize, usize)>
+        requires { key < key_count }
+        ensures is { result ≡ choice self.now.slots.now self.now.free (entry_at self.now.dir.now key) }
+        ensures inside { IfSome result (λ q. q.0 < length self.now.slots.now) }
+    {
+        if let Some(entry) = self.dir[key] {
+            return Some((entry.slot, self.free));
+        }
+        let left = self.free.checked_sub(1)?;
+        Some((self.slots[left].spare, left))
+    }
 }
 
-// The first words of a slot.
-pub(crate) fn front(slots: &[Slot], slot: usize, len: usize) -> &[u32]
-    requires slot { slot < length slots.now }
-    requires len { len ≤ longest }
-    ensures words { result.now ≡ take len (words_at slots.now slot) }
-    ensures long { length result.now ≡ len }
-{
-    let s = &slots[slot];
-    &s.words[0..len]
-}
+impl Store for FlatStore<'_> {
+    ghost BLOCK = { 32 };
 
-impl<'a> Image<'a> {
-    // An empty key gets a slot, and a file without words.
-    fn take_slot(&mut self, key: usize)
-        requires sound { Sound self.old }
-        requires key { key < key_count }
-        requires empty { held_at self.old key ≡ false }
-        requires free { 0 < self.old.free }
-        ensures sound { Sound self.new }
-        ensures held { held_at self.new key ≡ true }
-        ensures files { files_in self.new ≡ slice_set (files_in self.old) key (Some []) }
-        ensures units { units_in self.new ≡ units_in self.old }
+    ghost units = { λ s. units_in s };
+
+    ghost files = { λ s. files_in s };
+
+    ghost wide = { lit≤ tt };
+
+    ghost keys = { λ s. length-map s.dir.now (entry_file s.slots.now) ∙ s.sound.0 };
+
+    ghost room = { λ s. room_all s.slots.now s.dir.now s.free s.sound };
+
+    fn block_len() -> usize
+        ensures { result ≡ 32 }
     {
-        self.free -= 1;
-        let slot = self.slots[self.free].spare;
-        self.dir[key] = Entry {
-            held: true,
-            slot,
-            len: 0,
+        BLOCK
+    }
+
+    fn put(&mut self, key: usize, words: &[u32]) -> bool {
+        if words.len() > LONGEST || key >= KEYS {
+            return false;
+        }
+        let Some((slot, free)) = self.choose(key) else {
+            return false;
         };
-    }
-
-    // The slot of a held key is free again.
-    fn release(&mut self, key: usize)
-        requires sound { Sound self.old }
-        requires key { key < key_count }
-        requires held { held_at self.old key ≡ true }
-        ensures sound { Sound self.new }
-        ensures empty { held_at self.new key ≡ false }
-        ensures files { files_in self.new ≡ slice_set (files_in self.old) key None }
-        ensures units { units_in self.new ≡ units_in self.old }
-    {
-        self.slots[self.free].spare = self.dir[key].slot;
-        self.free += 1;
-        self.dir[key] = Entry::EMPTY;
-    }
-
-    // The slot of a held key gets other words.
-    fn write(&mut self, key: usize, words: &[u32])
-        requires sound { Sound self.old }
-        requires key { key < key_count }
-        requires held { held_at self.old key ≡ true }
-        requires short { length words.now ≤ longest }
-        ensures sound { Sound self.new }
-        ensures files { files_in self.new ≡ slice_set (files_in self.old) key (Some words.now) }
-        ensures units { units_in self.new ≡ units_in self.old }
-    {
-        let slot = self.dir[key].slot;
-        fill(&mut self.slots[slot], words);
-        self.dir[key] = Entry {
-            held: true,
-            slot,
-            len: words.len(),
-        };
-    }
-
-    // The slot of a held key becomes that of an empty one.
-    fn rename(&mut self, from: usize, to: usize)
-        requires sound { Sound self.old }
-        requires from { from < key_count }
-        requires to { to < key_count }
-        requires apart { from ≢ to }
-        requires held { held_at self.old from ≡ true }
-        requires empty { held_at self.old to ≡ false }
-        ensures sound { Sound self.new }
-        ensures files { files_in self.new ≡ slice_set (slice_set (files_in self.old) to (file_at (files_in self.old) from)) from None }
-        ensures units { units_in self.new ≡ units_in self.old }
-    {
-        let file = self.dir[from];
-        self.dir[to] = file;
-        self.dir[from] = Entry::EMPTY;
-    }
-
-    pub(crate) fn put(&mut self, key: usize, words: &[u32]) -> bool
-        requires sound { Sound self.old }
-        ensures sound { Sound self.new }
-        ensures answer { result ≡ admits 32 (units_in self.old) (files_in self.old) key words.now }
-        ensures files { files_in self.new ≡ (if result then slice_set (files_in self.old) key (Some words.now) else files_in self.old) }
-        ensures units { units_in self.new ≡ units_in self.old }
-    {
-        if words.len() > LONGEST {
-            return false;
-        }
-        if key >= KEYS {
-            return false;
-        }
-        if self.dir[key].held {
-            self.write(key, words);
-            return true;
-        }
-        if self.free == 0 {
-            return false;
-        }
-        self.take_slot(key);
-        self.write(key, words);
+        let dir = &mut *self.dir;
+        let slots = &mut *self.slots;
+        let len = words.len();
+        let room = &mut slots[slot];
+        room.words[..len].copy_from_slice(words);
+        dir[key] = Some(Entry { slot, len });
+        self.free = free;
         true
     }
 
-    pub(crate) fn clear(&mut self, key: usize)
-        requires sound { Sound self.old }
-        ensures sound { Sound self.new }
-        ensures files { files_in self.new ≡ slice_set (files_in self.old) key None }
-        ensures empty { held_at self.new key ≡ false }
-        ensures units { units_in self.new ≡ units_in self.old }
-    {
+    fn clear(&mut self, key: usize) {
         if key >= KEYS {
             return;
         }
-        if !self.dir[key].held {
+        let dir = &mut *self.dir;
+        let slots = &mut *self.slots;
+        let Some(entry) = dir[key].take() else {
             return;
-        }
-        self.release(key);
+        };
+        // Its slot is free again.
+        slots[self.free].spare = entry.slot;
+        self.free += 1;
     }
 
-    pub(crate) fn carry(&mut self, from: usize, to: usize)
-        requires sound { Sound self.old }
-        ensures sound { Sound self.new }
-        ensures files { files_in self.new ≡ moved (files_in self.old) from to }
-        ensures units { units_in self.new ≡ units_in self.old }
-    {
-        if from >= KEYS {
-            return;
-        }
-        if to >= KEYS {
-            return;
-        }
-        if from == to {
-            return;
-        }
-        if !self.dir[from].held {
+    fn carry(&mut self, from: usize, to: usize) {
+        if from == to || to >= KEYS || !self.held(from) {
             return;
         }
         self.clear(to);
-        self.rename(from, to);
+        self.dir.swap(to, from);
     }
 
-    pub(crate) fn length(&self, key: usize) -> Option<usize>
-        requires sound { Sound self.now }
-        ensures { result ≡ length_of (file_at (files_in self.now) key) }
-    {
-        if key >= KEYS {
-            return None;
-        }
-        let entry = self.dir[key];
-        if entry.held { Some(entry.len) } else { None }
+    fn length(&self, key: usize) -> Option<usize> {
+        let entry = (*self.dir.get(key)?)?;
+        Some(entry.len)
     }
 
-    pub(crate) fn part(&self, key: usize, at: usize) -> &[u32]
-        requires sound { Sound self.now }
-        ensures { result.now ≡ take 32 (drop (at * 32) (words_of (file_at (files_in self.now) key))) }
-    {
-        if key >= KEYS {
-            return &[];
-        }
-        if at > 0 {
-            return &[];
-        }
-        let entry = self.dir[key];
-        if !entry.held {
-            return &[];
-        }
+    fn part(&self, key: usize, at: usize) -> &[u32] {
         let slots = &*self.slots;
-        front(slots, entry.slot, entry.len)
+        match self.dir.get(key) {
+            Some(Some(entry)) if at == 0 => &slots[entry.slot].words[..entry.len],
+            _ => &[],
+        }
     }
 }

@@ -1,9 +1,8 @@
-// What a caller lends to a flat image: an entry for each key, and slots.
+// What a caller lends to a flat image: an entry for each key that holds a file, and slots.
 
 // Where a key's file lies, and how many words it has.
 #[derive(Clone, Copy)]
 pub struct Entry {
-    pub held: bool,
     pub slot: usize,
     pub len: usize,
 }
@@ -13,14 +12,6 @@ pub struct Entry {
 pub struct Slot {
     pub spare: usize,
     pub words: [u32; 32],
-}
-
-impl Entry {
-    pub const EMPTY: Entry = Entry {
-        held: false,
-        slot: 0,
-        len: 0,
-    };
 }
 
 impl Slot {

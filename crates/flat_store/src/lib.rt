@@ -3,5 +3,5 @@
 mod calls;
 pub mod cells;
 pub mod flat;
-mod image;
+mod making;
 mod taking;

@@ -1,62 +1,49 @@
-ghost use Rattle.std.specs.Prelude.{◌≡◌, ℕ, ◌+◌, ◌<◌, ◌≤◌, true, false, ◌&&◌, length, IfNone, if◌then◌else◌, count_by, MatchOption, nat_le, slice_index_or};
-ghost use Rattle.store.specs.Files.{key_count, longest};
-ghost use Rattle.flat_store.specs.Images.{blank, words_at, image_files, Fits, Kept};
+ghost use Rattle.std.specs.Prelude.{◌≡◌, ℕ, ◌<◌, true, length, IfNone, if◌then◌else◌, Some, count_by, MatchOption, slice_index_or};
+ghost use Rattle.store.specs.Files.{key_count};
+ghost use Rattle.flat_store.specs.Images.{blank, words_at, Fits};
 ghost use Rattle.flat_store.specs.Taking.{markable, marked, unnamed, Whole, Damaged, Marks, Free};
 
-use crate::calls::front;
 use crate::cells::{Entry, Slot};
-use store::keys::{KEYS, LONGEST};
 
 fn unmark(slots: &mut [Slot])
     ensures spare { (p : ℕ) → p < length slots.new → (slice_index_or slots.new p blank).spare ≡ 0 }
     ensures words { (p : ℕ) → words_at slots.new p ≡ words_at slots.old p }
 {
-    for i in 0..slots.len() {
-        slots[i].spare = 0;
+    for slot in slots.iter_mut() {
+        slot.spare = 0;
     }
-}
-
-// Whether a slot has room for so many words.
-fn has_room(slots: &[Slot], slot: usize, len: usize) -> bool
-    requires { slot < length slots.now }
-    ensures is { result ≡ nat_le len longest }
-    ensures room { result ≡ true → len ≤ length (words_at slots.now slot) }
-{
-    len <= front(slots, slot, LONGEST).len()
 }
 
 // Marks the slot that an entry names; false where it names none, one that is marked, or too many words.
 fn mark(entry: Entry, slots: &mut [Slot]) -> bool
     ensures answer { result ≡ markable slots.old entry }
-    ensures slots { slots.new ≡ (if result && entry.held then marked slots.old entry.slot else slots.old) }
-    ensures fits { result ≡ true → Fits slots.old entry }
+    ensures slots { slots.new ≡ (if result then marked slots.old entry.slot else slots.old) }
+    ensures fits { result ≡ true → Fits slots.old (Some entry) }
 {
-    if !entry.held {
-        return true;
-    }
     if entry.slot >= slots.len() {
         return false;
     }
-    if !has_room(slots, entry.slot, entry.len) {
+    let slot = &mut slots[entry.slot];
+    if slot.words.get(..entry.len).is_none() || slot.spare != 0 {
         return false;
     }
-    if slots[entry.slot].spare != 0 {
-        return false;
-    }
-    slots[entry.slot].spare = 1;
+    slot.spare = 1;
     true
 }
 
 // The first key whose entry is damaged. Files and entries stay as they are, and the marks tell the slots that no file has.
-pub(crate) fn look_through(dir: &[Entry], slots: &mut [Slot]) -> Option<usize>
+pub(crate) fn look_through(dir: &[Option<Entry>], slots: &mut [Slot]) -> Option<usize>
     requires { length dir.now ≡ key_count }
     ensures found { MatchOption result (Whole dir.now (length slots.old)) (Damaged dir.now (length slots.old)) }
     ensures marks { IfNone result (Marks dir.now slots.new key_count) }
     ensures words { (p : ℕ) → words_at slots.new p ≡ words_at slots.old p }
 {
     unmark(slots);
-    for k in 0..KEYS {
-        if !mark(dir[k], slots) {
+    for (k, entry) in dir.iter().enumerate() {
+        let Some(entry) = entry else {
+            continue;
+        };
+        if !mark(*entry, slots) {
             return Some(k);
         }
     }
@@ -71,6 +58,7 @@ pub(crate) fn list_free(slots: &mut [Slot]) -> usize
     ensures words { (p : ℕ) → words_at slots.new p ≡ words_at slots.old p }
 {
     let mut free = 0;
+    // By index: the slot that is written is not the one that is looked at.
     for p in 0..slots.len() {
         if slots[p].spare != 0 {
             continue;

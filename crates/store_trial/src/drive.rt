@@ -21,46 +21,30 @@ const PARTS: usize = 10;
 // Whether all questions about a key get the model's answers.
 fn agrees<S: Store>(store: &S, model: &Model, key: usize) -> bool {
     let file = model.file(key);
-    let length = if file.held { Some(file.len) } else { None };
-    if store.held(key) != file.held || store.length(key) != length {
+    if store.held(key) != file.is_some() || store.length(key) != file.map(|words| words.len()) {
         return false;
     }
-    let mut seen: usize = 0;
-    for at in 0..PARTS {
-        for word in store.part(key, at) {
-            if file.words.get(seen) != Some(word) {
-                return false;
-            }
-            seen = seen.saturating_add(1);
-        }
-    }
-    seen == file.len
+    let words = file.unwrap_or_default();
+    (0..PARTS).flat_map(|at| store.part(key, at)).eq(words)
 }
 
 // Whether they do for every key, and some that are too high.
 pub fn all_agree<S: Store>(store: &S, model: &Model) -> bool {
-    for key in 0..1030 {
-        if !agrees(store, model, key) {
-            return false;
-        }
-    }
-    true
+    (0..1030).all(|key| agrees(store, model, key))
 }
 
 fn put<S: Store>(store: &mut S, model: &mut Model, dice: &mut Dice, tally: &mut Tally) -> bool {
     let mut words = [0; 40];
-    for w in words.iter_mut() {
-        *w = dice.word();
-    }
+    words.fill_with(|| dice.word());
     let len = dice.below(40) as usize;
     let key = dice.key();
-    let admitted = store.put(key, &words[0..len]);
+    let admitted = store.put(key, &words[..len]);
     if admitted {
         tally.admitted = tally.admitted.saturating_add(1);
     } else if len <= LONGEST && key < KEYS {
         tally.refused = tally.refused.saturating_add(1);
     }
-    model.put(key, &words[0..len]) == admitted && agrees(store, model, key)
+    model.put(key, &words[..len]) == admitted && agrees(store, model, key)
 }
 
 // One call, and whether the store then answers as the model does.
@@ -68,13 +52,13 @@ fn turn<S: Store>(store: &mut S, model: &mut Model, dice: &mut Dice, tally: &mut
     let from = dice.key();
     let to = dice.key();
     match dice.below(10) {
-        0 | 1 | 2 | 3 => put(store, model, dice, tally),
-        4 | 5 => {
+        0..=3 => put(store, model, dice, tally),
+        4..=5 => {
             store.carry(from, to);
             model.carry(from, to);
             agrees(store, model, from) && agrees(store, model, to)
         }
-        6 | 7 | 8 => {
+        6..=8 => {
             store.clear(from);
             model.clear(from);
             agrees(store, model, from)
@@ -105,19 +89,17 @@ pub fn drive<S: Store>(store: &mut S, model: &mut Model, calls: u32) -> Tally {
 // The client over both outcomes: files that fit replace what is there and what was set aside is discarded; where the
 // second does not fit, all is as found.
 pub fn rounds<S: Store>(store: &mut S, model: &mut Model) -> bool {
-    for k in 0..1024 {
+    for k in 0..KEYS {
         store.clear(k);
         model.clear(k);
     }
     let paths = [3, 250];
     let fits = replace_all(store, &paths, &[7, 8, 9]);
     pass_all(store, Pass::Discard, &paths);
-    for path in &paths {
-        if !model.put(key(*path, Side::Place), &[7, 8, 9]) {
-            return false;
-        }
-    }
-    if !fits || !all_agree(store, model) {
+    let put = paths
+        .iter()
+        .all(|path| model.put(key(*path, Side::Place), &[7, 8, 9]));
+    if !put || !fits || !all_agree(store, model) {
         return false;
     }
     let many = [1, 3, 4, 5, 6, 7, 8, 9, 250];

@@ -23,11 +23,9 @@ const OFTEN: u32 = 500;
 
 fn report(rt: &HostRuntime, name: &str, tally: Tally, kept: bool) -> anyhow::Result<()> {
     let calls = tally.calls;
-    if tally.differences == 0 {
-        println!(rt; "{name}: {calls} calls, no difference")?;
-    } else {
-        let differences = tally.differences;
-        println!(rt; "{name}: {calls} calls, {differences} differences")?;
+    match tally.differences {
+        0 => println!(rt; "{name}: {calls} calls, no difference")?,
+        n => println!(rt; "{name}: {calls} calls, {n} differences")?,
     }
     let often = tally.admitted > OFTEN && tally.refused > OFTEN;
     println!(rt; "{name}: over 500 puts admitted, over 500 refused for want of units: {often}")?;
@@ -61,7 +59,7 @@ fn refused(rt: &HostRuntime, name: &str, damage: Option<usize>) -> anyhow::Resul
 // Each is taken up again as it was left; where two keys have one file, it is refused at the second.
 fn flat_again(
     rt: &HostRuntime,
-    dir: &mut [Entry; KEYS],
+    dir: &mut [Option<Entry>; KEYS],
     slots: &mut [Slot],
     model: &Model,
 ) -> anyhow::Result<()> {
@@ -86,7 +84,7 @@ fn blocks_again(
 }
 
 fn main(rt: HostRuntime) -> anyhow::Result<()> {
-    let mut dir = [Entry::EMPTY; KEYS];
+    let mut dir = [None; KEYS];
     let mut slots = [Slot::BLANK; 6];
     let mut flat = FlatStore::format(&mut dir, &mut slots);
     let model = trial(&rt, "flat image", &mut flat, 6)?;

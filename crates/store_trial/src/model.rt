@@ -1,30 +1,23 @@
 use std::alloc::{AllocError, Global};
 
-// What a key holds.
+// A file's words, in a buffer of the longest file's length, so that it is copied.
 #[derive(Clone, Copy)]
-pub struct File {
-    pub held: bool,
-    pub len: usize,
-    pub words: [u32; 32],
+struct File {
+    len: usize,
+    words: [u32; 32],
 }
 
 // The plain list: what each key holds, in order. Every question is answered by looking, every sum made anew.
 #[derive(Drop)]
 pub struct Model {
-    files: Vec<File>,
+    files: Vec<Option<File>>,
     block: usize,
     units: usize,
 }
 
-const EMPTY: File = File {
-    held: false,
-    len: 0,
-    words: [0; 32],
-};
-
 impl Model {
     pub fn new(heap: Global, block: usize, units: usize) -> Result<Model, AllocError> {
-        let files = vec![in heap; EMPTY; 1024]?;
+        let files = vec![in heap; None; 1024]?;
         Ok(Model {
             files,
             block,
@@ -32,14 +25,13 @@ impl Model {
         })
     }
 
-    pub fn file(&self, key: usize) -> File {
-        match self.files.get(key) {
-            Some(f) => *f,
-            None => EMPTY,
-        }
+    // The words of the key's file.
+    pub fn file(&self, key: usize) -> Option<&[u32]> {
+        let file = self.files.get(key)?.as_ref()?;
+        file.words.get(..file.len)
     }
 
-    fn set(&mut self, key: usize, file: File) {
+    fn set(&mut self, key: usize, file: Option<File>) {
         if let Some(f) = self.files.get_mut(key) {
             *f = file;
         }
@@ -47,23 +39,17 @@ impl Model {
 
     // One unit for each block begun, and one for no words.
     fn cost(&self, len: usize) -> usize {
-        let mut units: usize = 1;
-        let mut held = self.block;
-        for i in 0..len {
-            if i >= held {
-                units = units.saturating_add(1);
-                held = held.saturating_add(self.block);
-            }
-        }
-        units
+        len.div_ceil(self.block.max(1)).max(1)
     }
 
     // What all other files cost.
     fn others(&self, key: usize) -> usize {
         let mut sum: usize = 0;
-        for (k, f) in self.files.as_slice().iter().enumerate() {
-            if k != key && f.held {
-                sum = sum.saturating_add(self.cost(f.len));
+        for (k, file) in self.files.as_slice().iter().enumerate() {
+            if let Some(file) = file
+                && k != key
+            {
+                sum = sum.saturating_add(self.cost(file.len));
             }
         }
         sum
@@ -77,29 +63,21 @@ impl Model {
             return false;
         }
         let mut all = [0; 32];
-        for (i, w) in words.iter().enumerate() {
-            all[i] = *w;
-        }
-        self.set(
-            key,
-            File {
-                held: true,
-                len: words.len(),
-                words: all,
-            },
-        );
+        let len = words.len();
+        all[..len].copy_from_slice(words);
+        self.set(key, Some(File { len, words: all }));
         true
     }
 
     pub fn carry(&mut self, from: usize, to: usize) {
-        let file = self.file(from);
-        if file.held && to < 1024 && from != to {
+        let file = self.files.get(from).copied().flatten();
+        if file.is_some() && to < 1024 && from != to {
             self.set(to, file);
-            self.set(from, EMPTY);
+            self.set(from, None);
         }
     }
 
     pub fn clear(&mut self, key: usize) {
-        self.set(key, EMPTY);
+        self.set(key, None);
     }
 }
