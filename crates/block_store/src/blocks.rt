@@ -27,7 +27,7 @@ pub struct BlockStore<'a> {
 }
 
 impl<'a> Store for BlockStore<'a> {
-    ghost BLOCK = { 4 };
+    ghost block = { 4 };
 
     ghost units = { λ s. units_in s.chains };
 

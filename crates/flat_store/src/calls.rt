@@ -30,7 +30,7 @@ impl FlatStore<'_> {
 }
 
 impl Store for FlatStore<'_> {
-    ghost BLOCK = { 32 };
+    ghost block = { 32 };
 
     ghost units = { λ s. units_in s };
 

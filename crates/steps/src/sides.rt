@@ -39,7 +39,7 @@ fn held_side<S: Store>(store: &S, path: u8, side: Side) -> bool
 // Lays a file: what is in its way is set aside, and the file is put there.
 pub fn lay<S: Store>(store: &mut S, kind: FileKind, path: u8, words: &[u32]) -> Laid
     ensures aside { result.aside ≡ in_way kind (sides_at (S.Store.files store.old) path) }
-    ensures admitted { result.admitted ≡ room_for S.Store.BLOCK (S.Store.units store.old) kind path words.now (sides_at (S.Store.files store.old)) }
+    ensures admitted { result.admitted ≡ room_for S.Store.block (S.Store.units store.old) kind path words.now (sides_at (S.Store.files store.old)) }
     ensures sides { sides_at (S.Store.files store.new) ≡ change path (lay_step result.admitted kind words.now) (sides_at (S.Store.files store.old)) }
     ensures units { S.Store.units store.new ≡ S.Store.units store.old }
 {

@@ -13,8 +13,8 @@ use store::api::Store;
 
 // Lays the files of a package, one by one. `Err` where the store refuses one; what was done until then is in the token.
 pub fn lay_all<S: Store>(store: &mut S, new: &Package<'_>) -> Result<Before, Before>
-    ensures laid { Lays S.Store.BLOCK (S.Store.units store.old) (files_of new.now) (sides_at (S.Store.files store.old)) result (sides_at (S.Store.files store.new)) }
-    ensures laid_goods { Lays S.Store.BLOCK (S.Store.units store.old) (goods_in new.now.words.now).files (sides_at (S.Store.files store.old)) result (sides_at (S.Store.files store.new)) }
+    ensures laid { Lays S.Store.block (S.Store.units store.old) (files_of new.now) (sides_at (S.Store.files store.old)) result (sides_at (S.Store.files store.new)) }
+    ensures laid_goods { Lays S.Store.block (S.Store.units store.old) (goods_in new.now.words.now).files (sides_at (S.Store.files store.old)) result (sides_at (S.Store.files store.new)) }
     ensures units { S.Store.units store.new ≡ S.Store.units store.old }
 {
     let mut touched = 0;

@@ -4,26 +4,26 @@ ghost use Rattle.store.specs.Files.{Files, key_count, file_at, used, admits, mov
 // A store of files under keys. What it holds, and how many units it has, is all that its calls speak of.
 pub trait Store {
     // The length of a block, in words.
-    ghost BLOCK: { ℕ };
+    ghost block: { ℕ };
 
     ghost units: { Self → ℕ };
 
     ghost files: { Self → Files };
 
     // What each store proves: a block has a word at least, each key has its place, and the files held fit.
-    ghost wide: { 1 ≤ BLOCK };
+    ghost wide: { 1 ≤ block };
 
     ghost keys: { (s : Self) → length (files s) ≡ key_count };
 
-    ghost room: { (s : Self) → used BLOCK (files s) ≤ units s };
+    ghost room: { (s : Self) → used block (files s) ≤ units s };
 
     // A function, since no impl with a lifetime may yet tie a constant to the name that clauses have for it.
     fn block_len() -> usize
-        ensures { result ≡ BLOCK };
+        ensures { result ≡ block };
 
     // Holds the words under the key, in the place of what was there; false where that is refused, and then nothing changes.
     fn put(&mut self, key: usize, words: &[u32]) -> bool
-        ensures answer { result ≡ admits BLOCK (units self.old) (files self.old) key words.now }
+        ensures answer { result ≡ admits block (units self.old) (files self.old) key words.now }
         ensures files { files self.new ≡ (if result then slice_set (files self.old) key (Some words.now) else files self.old) }
         ensures units { units self.new ≡ units self.old };
 
@@ -50,5 +50,5 @@ pub trait Store {
 
     // The words of the key's file from block `at` on, as far as they stand together: one block's. They are lent, not copied.
     fn part(&self, key: usize, at: usize) -> &[u32]
-        ensures { result.now ≡ take BLOCK (drop (at * BLOCK) (words_of (file_at (files self.now) key))) };
+        ensures { result.now ≡ take block (drop (at * block) (words_of (file_at (files self.now) key))) };
 }

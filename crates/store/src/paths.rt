@@ -8,7 +8,7 @@ use crate::side::Side;
 // The store's three calls on one side of a path. Their contracts speak of paths alone, as what is built on a store does.
 
 pub fn put_side<S: Store>(store: &mut S, path: u8, side: Side, words: &[u32]) -> bool
-    ensures answer { result ≡ admits_side S.Store.BLOCK (S.Store.units store.old) (sides_at (S.Store.files store.old)) path side words.now }
+    ensures answer { result ≡ admits_side S.Store.block (S.Store.units store.old) (sides_at (S.Store.files store.old)) path side words.now }
     ensures sides { sides_at (S.Store.files store.new) ≡ (if result then change path (with_side side (Some words.now)) (sides_at (S.Store.files store.old)) else sides_at (S.Store.files store.old)) }
     ensures units { S.Store.units store.new ≡ S.Store.units store.old }
 {

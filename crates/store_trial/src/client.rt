@@ -35,7 +35,7 @@ pub fn pass_all<S: Store>(store: &mut S, pass: Pass, paths: &[u8])
 // Puts a file in place at each path, as far as the store admits it; answers at how many.
 pub fn put_all<S: Store>(store: &mut S, paths: &[u8], words: &[u32]) -> usize
     ensures within { result ≤ length paths.now }
-    ensures stopped { result < length paths.now → admits_side S.Store.BLOCK (S.Store.units store.old) (sides_at (S.Store.files store.new)) (slice_index paths.now result) Place words.now ≡ false }
+    ensures stopped { result < length paths.now → admits_side S.Store.block (S.Store.units store.old) (sides_at (S.Store.files store.new)) (slice_index paths.now result) Place words.now ≡ false }
     ensures sides { sides_at (S.Store.files store.new) ≡ over_all (with_side Place (Some words.now)) (take result paths.now) (sides_at (S.Store.files store.old)) }
     ensures units { S.Store.units store.new ≡ S.Store.units store.old }
 {

@@ -11,7 +11,7 @@ returns g c =
     let er = c.refuge_of.ensures in
     record {
       aside = c.held_side-aside.ensures ∙ ap (λ (s : Side). is_some (side_of s (f c.args.path))) eh;
-      admitted = room_one c.args.kind c.args.path _ _ eh er f _ c.args.words.now g.S.Store.BLOCK _ _ _ c.carry_side.ensures.sides c.carry_side.ensures.units c.put_side-admitted.ensures.answer;
+      admitted = room_one c.args.kind c.args.path _ _ eh er f _ c.args.words.now g.S.Store.block _ _ _ c.carry_side.ensures.sides c.carry_side.ensures.units c.put_side-admitted.ensures.answer;
       sides = lay_one c.args.kind c.args.path _ _ eh er f _ c.args.words.now _ _ c.carry_side.ensures.sides c.put_side-admitted.ensures.sides;
       units = c.put_side-admitted.ensures.units ∙ c.carry_side.ensures.units;
     }

@@ -29,12 +29,12 @@ returns-then-not-one-clause-laid g c =
     let f = sides_at (g.S.Store.files c.loop-file.store) in
     c.loop-file.invariant.laid
     ∙ turn_stop _ _ _ _ x _ _ f _ c.lay-one.result.admitted c.lay-one.result.aside c.in-Some.ensures.steps
-    (c.lay-one.ensures.admitted ∙ ap (λ (n : ℕ). room_for g.S.Store.BLOCK n x.kind x.path x.words f) c.loop-file.invariant.units)
+    (c.lay-one.ensures.admitted ∙ ap (λ (n : ℕ). room_for g.S.Store.block n x.kind x.path x.words f) c.loop-file.invariant.units)
     c.lay-one.ensures.sides c.lay-one.ensures.aside (not-true _ c.if-not-one.true)
 
 pub returns-then-not-one-clause-laid_goods : goal.returns-then-not-one-clause-laid_goods
 returns-then-not-one-clause-laid_goods g c =
-    ap (λ (xs : List Ware). lay_all g.S.Store.BLOCK (g.S.Store.units c.args.store.now) xs (sides_at (g.S.Store.files c.args.store.now))) (sym (files_read c.args.new.now))
+    ap (λ (xs : List Ware). lay_all g.S.Store.block (g.S.Store.units c.args.store.now) xs (sides_at (g.S.Store.files c.args.store.now))) (sym (files_read c.args.new.now))
     ∙ returns-then-not-one-clause-laid g c
 
 pub loop-file-preserved : goal.loop-file-preserved
@@ -48,7 +48,7 @@ loop-file-preserved g c =
       laid =
           c.loop-file.invariant.laid
           ∙ turn_on _ _ _ _ x _ _ f _ c.lay-one.result.admitted c.lay-one.result.aside c.in-Some.ensures.steps
-          (c.lay-one.ensures.admitted ∙ ap (λ (n : ℕ). room_for g.S.Store.BLOCK n x.kind x.path x.words f) c.loop-file.invariant.units)
+          (c.lay-one.ensures.admitted ∙ ap (λ (n : ℕ). room_for g.S.Store.block n x.kind x.path x.words f) c.loop-file.invariant.units)
           c.lay-one.ensures.sides c.lay-one.ensures.aside (not-false _ c.if-not-one.false);
       units = c.lay-one.ensures.units ∙ c.loop-file.invariant.units;
       few = omega arith;
@@ -57,6 +57,6 @@ loop-file-preserved g c =
 
 pub returns-clause-laid_goods : goal.returns-clause-laid_goods
 returns-clause-laid_goods g c =
-    ap (λ (xs : List Ware). lay_all g.S.Store.BLOCK (g.S.Store.units c.args.store.now) xs (sides_at (g.S.Store.files c.args.store.now))) (sym (files_read c.args.new.now))
+    ap (λ (xs : List Ware). lay_all g.S.Store.block (g.S.Store.units c.args.store.now) xs (sides_at (g.S.Store.files c.args.store.now))) (sym (files_read c.args.new.now))
     ∙ c.loop-file.invariant.laid
     ∙ turn_end _ _ _ _ _ _ c.in-None.ensures.steps.0
