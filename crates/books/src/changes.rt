@@ -1,11 +1,11 @@
-ghost use Rattle.std.specs.Prelude.{◌≡◌, []};
+ghost use Rattle.std.specs.Prelude.{◌≡◌, [], is_ok};
 ghost use Rattle.books.specs.Ledger.{ledger};
 ghost use Rattle.books.specs.Changes.{NotedLine, Wrote, Struck, Owns};
 
 use crate::books::Books;
 use crate::rows::{put, take_out};
 use base::ShortText;
-use host::Line;
+use host::{Full, Line};
 use status::{Owned, Record};
 
 impl<'a> Books<'a> {
@@ -21,16 +21,16 @@ impl<'a> Books<'a> {
         self.trace.clear();
     }
 
-    // One line more; false where the trace is full.
-    pub fn note(&mut self, line: Line) -> bool
-        ensures { NotedLine line (ledger self.old) result (ledger self.new) }
+    // One line more, if the trace has room for it.
+    pub fn note(&mut self, line: Line) -> Result<(), Full>
+        ensures { NotedLine line (ledger self.old) (is_ok result) (ledger self.new) }
     {
-        self.trace.add(line).is_ok()
+        self.trace.add(line)
     }
 
-    // The record of its name is this one from now on; false where no record has the name and none can come in.
-    pub fn write(&mut self, row: Record) -> bool
-        ensures { Wrote row (ledger self.old) result (ledger self.new) }
+    // The record of its name is this one from now on; refused where no record has the name and none can come in.
+    pub fn write(&mut self, row: Record) -> Result<(), Full>
+        ensures { Wrote row (ledger self.old) (is_ok result) (ledger self.new) }
     {
         put(&mut self.records, row)
     }
@@ -42,9 +42,9 @@ impl<'a> Books<'a> {
         take_out(&mut self.records, name);
     }
 
-    // The path is owned so from now on; false where it has no owner and the table is full.
-    pub fn own(&mut self, row: Owned) -> bool
-        ensures { Owns row (ledger self.old) result (ledger self.new) }
+    // The path is owned so from now on; refused where it has no owner and the table is full.
+    pub fn own(&mut self, row: Owned) -> Result<(), Full>
+        ensures { Owns row (ledger self.old) (is_ok result) (ledger self.new) }
     {
         put(&mut self.owners, row)
     }

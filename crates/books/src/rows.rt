@@ -1,15 +1,22 @@
-ghost use Rattle.std.specs.Prelude.{◌≡◌};
+ghost use Rattle.std.specs.Prelude.{◌≡◌, is_ok};
 ghost use Rattle.table.specs.Answers.{live, room};
 ghost use Rattle.books.specs.Changes.{Put, Out};
 
+use host::Full;
 use table::{Element, Key, Table};
 
 // Puts a row into a table: over the row of its key, or in beside the others.
-pub(crate) fn put<E: Element>(table: &mut Table<'_, E>, row: E) -> bool
+pub(crate) fn put<E: Element>(table: &mut Table<'_, E>, row: E) -> Result<(), Full>
     ensures room { room table.new ≡ room table.old }
-    ensures put { Put E.K.Key.below E.Element.keyed row (room table.old) (live table.old) result (live table.new) }
+    ensures put { Put E.K.Key.below E.Element.keyed row (room table.old) (live table.old) (is_ok result) (live table.new) }
 {
-    table.replace(row).is_some() || table.insert(row).is_ok()
+    if table.replace(row).is_some() {
+        return Ok(());
+    }
+    match table.insert(row) {
+        Ok(_) => Ok(()),
+        Err(_) => Err(Full),
+    }
 }
 
 // Takes the row of a key out of a table, if there is one.

@@ -1,4 +1,5 @@
 use Rattle.std.proofs.Common.{◌≡◌, ℕ, ltb, List, sym, ◌∙◌, subst, rules}
+use Rattle.std.specs.Prelude.{is_ok}
 use Rattle.package.specs.Files.{ware_of, files_of, files_left}
 use Rattle.package.specs.Wares.{Ware}
 use Rattle.status.specs.declared.rows.Owned.{Owned}
@@ -33,16 +34,16 @@ loop-file-preserved c =
     let rest = files_left c.next.new.self in
     let e = c.in-Some.ensures.steps in
     let row : Owned = record { path = x.path; owner = c.args.name; kind = x.kind } in
-    let put : Put ltb (λ (o : Owned). o.path) row (room start) now c.put.result next =
-    subst (λ (n : ℕ). Put ltb (λ (o : Owned). o.path) row n now c.put.result next) i.places c.put.ensures.put in
+    let put : Put ltb (λ (o : Owned). o.path) row (room start) now (is_ok c.put.result) next =
+    subst (λ (n : ℕ). Put ltb (λ (o : Owned). o.path) row n now (is_ok c.put.result) next) i.places c.put.ensures.put in
     record {
       places = c.put.ensures.room ∙ i.places;
       apart = (subst Distinct e i.apart).1;
       owned = λ fits.
           let o = i.owned fits in
           record {
-            room = owned_room c.args.name x rest _ (room start) now next c.put.result e i.apart o.room put;
-            last = λ new h. o.last new (owned_more c.args.name x rest _ (room start) now next c.put.result e i.apart o.room put new h);
+            room = owned_room c.args.name x rest _ (room start) now next (is_ok c.put.result) e i.apart o.room put;
+            last = λ new h. o.last new (owned_more c.args.name x rest _ (room start) now next (is_ok c.put.result) e i.apart o.room put new h);
           };
     }
 

@@ -1,4 +1,5 @@
 use Rattle.std.proofs.Common.{refl}
+use Rattle.std.specs.Prelude.{is_ok}
 use Rattle.host.specs.Traces.{lines_in, space}
 use Rattle.table.specs.Answers.{live}
 use Rattle.books.proofs.Notes.{noted}
@@ -7,7 +8,7 @@ use Rattle.books.proofs.books.Books.note.Goals as goal
 pub returns : goal.returns
 returns c =
     let b = c.args.self.now in
-    let n = noted c.args.line c.add.result c.is_ok.result b.trace c.add.new.self c.is_ok.ensures.value c.add.ensures in
+    let n = noted c.args.line c.add.result (is_ok c.add.result) b.trace c.add.new.self refl c.add.ensures in
     record {
       told = n.told;
       added = n.added;
