@@ -8,7 +8,7 @@ pub struct Tally {
     pub wrong: Option<&'static str>,
 }
 
-// What a refusal is to say.
+// What a refusal is to say, by the numbers that manuals and programs print, so that these are tested too.
 #[derive(Clone, Copy)]
 pub struct Expected {
     pub number: u8,

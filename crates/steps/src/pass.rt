@@ -1,5 +1,5 @@
-// What configure, remove and purge do with an owned path. An enum and no closure, since the definitions of what a call
-// leaves are over it: a closure would have to bring its meaning as a clause of its own.
+// What configure, remove and purge do with an owned path. An enum and no closure: what takes a closure has to require that
+// it may be called, and no public call of the core requires anything.
 #[derive(Clone, Copy, PartialEq, Eq)]
 pub enum Pass {
     // a pending conffile takes its place
@@ -10,7 +10,7 @@ pub enum Pass {
     Wipe,
 }
 
-// How files that were laid are dealt with in the end; an enum for the same reason.
+// How files that were laid are dealt with in the end. An enum, since the definitions of what is left then are over it.
 #[derive(Clone, Copy, PartialEq, Eq)]
 pub enum Unwind {
     // what was set aside returns

@@ -1,6 +1,6 @@
 use std::alloc::{AllocError, Global};
 
-// A file's words, in a buffer of the longest file's length, so that it is copied.
+// A file's words, in a buffer of the longest file's length: so no call of the model can fail for want of memory.
 #[derive(Clone, Copy)]
 struct File {
     len: usize,

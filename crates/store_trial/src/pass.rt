@@ -1,4 +1,4 @@
-// What is done to each path of a list.
+// What is done to each path of a list. An enum, since the definitions of what a pass leaves are over it.
 #[derive(Clone, Copy)]
 pub enum Pass {
     // the file in place is set aside
