@@ -39,7 +39,7 @@ impl Model {
 
     // One unit for each block begun, and one for no words.
     fn cost(&self, len: usize) -> usize {
-        len.div_ceil(self.block.max(1)).max(1)
+        (0..len).step_by(self.block.max(1)).count().max(1)
     }
 
     // What all other files cost.
