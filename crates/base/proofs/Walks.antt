@@ -36,9 +36,6 @@ take_spelt (x ∷ xs) = go (eqb x 0) (take_spelt xs)
 pub take_spelt_at : (xs : List ℕ) (n : ℕ) → n ≡ length (spelt xs) → take (n - 0) xs ≡ spelt xs
 take_spelt_at xs n e = rw (sub-zero, e) (take_spelt xs)
 
-pub spelt_short : (xs : List ℕ) → length (spelt xs) ≤ length xs
-spelt_short xs = let e = length-take (length (spelt xs)) xs in let f = ap length (take_spelt xs) in omega arith
-
 -- a text written over the front of sixteen zero bytes
 pub pads : (xs text : List ℕ) → xs ≡ text → xs ++ post_of 0 (length text - 0) (replicate 16 0) ≡ padded text
 pads xs text e = rw (e, sub-zero, drop-replicate {X = ℕ} (length text) 16 0) refl
@@ -48,11 +45,3 @@ pub spelled_on : (kind : TextKind) (xs : List ℕ) → 0 < length xs → may_beg
     → all (may_follow kind) (between 1 (length xs) xs) ≡ spelled kind xs
 spelled_on kind xs h e =
     sym (ap (spelled kind) (first_rest xs 0 h) ∙ ap (λ (b : Bool). b && all (may_follow kind) (between 1 (length xs) xs)) e)
-
-pub spelled_off : (kind : TextKind) (xs : List ℕ) → 0 < length xs → may_begin kind (get_or xs 0 0) ≡ false → false ≡ spelled kind xs
-spelled_off kind xs h e =
-    sym (ap (spelled kind) (first_rest xs 0 h) ∙ ap (λ (b : Bool). b && all (may_follow kind) (between 1 (length xs) xs)) e)
-
-pub spelled_none : (kind : TextKind) (xs : List ℕ) → length xs < 1 → false ≡ spelled kind xs
-spelled_none kind [] h = refl
-spelled_none kind (x ∷ xs) h = absurd (not-suc-le-zero (le_of_suc-le-suc h))

@@ -31,6 +31,7 @@ fn after(blocks: &[Block], block: usize) -> usize
     ensures wide { length (words_in blocks.now block) ≡ 4 }
 {
     let b = &blocks[block];
+    // looked at for the clause `wide`
     let _words: &[u32] = &b.words;
     b.next
 }

@@ -18,7 +18,8 @@ fn is_let_go(row: Owned, name: ShortText, kind: FileKind, except: &PathSet) -> b
     !except.has(row.path) && row.kind == kind && same_name(row.owner, name)
 }
 
-// Takes out the rows that are let go, the last one first.
+// Takes out the rows that are let go, the last one first, so that none still to be looked at moves. The table has no `retain`:
+// a call that takes a closure has to require that it may be called, and no public call requires anything.
 fn disown_rows(owners: &mut Table<'_, Owned>, name: ShortText, kind: FileKind, except: &PathSet)
     ensures room { room owners.new ≡ room owners.old }
     ensures count { length (live owners.new) ≤ length (live owners.old) }

@@ -5,7 +5,7 @@ use Rattle.std.proofs.lemmas.List.Sums.{sum_by-cons, sum_by-set, sum_by_more, ge
 use Rattle.std.proofs.lemmas.Bool.{cases_eq, cases_lt, cases_order, eqb-true, eq-eqb, ne_eqb, ltb-true, and_parts}
 use Rattle.store.specs.Files.{key_count, longest}
 use Rattle.flat_store.specs.Images.{blank, entry_at, words_at, slot_of, live, slot_at, Fits, units, Kept}
-use Rattle.flat_store.specs.Taking.{names, named, good_after, good, Whole, markable, marked, unnamed, Marks, Free}
+use Rattle.flat_store.specs.Taking.{names, named, good_after, good, markable, marked, unnamed, Marks, Free}
 use Rattle.flat_store.specs.declared.cells.Entry.{Entry}
 use Rattle.flat_store.specs.declared.cells.Slot.{Slot}
 use Rattle.flat_store.proofs.Images.{fits_same}
@@ -238,7 +238,3 @@ module _ (dir : List (Option Entry)) (ss old : List Slot) (free : ℕ) (long : l
     (λ k kl. fits_same old ss words (entry_at dir k) (marks.2 k kl)),
     (inside, apart),
   )
-
--- the end of the search for damage
-pub whole : (dir : List (Option Entry)) (ss : List Slot) (k n : ℕ) → k ≡ key_count → length ss ≡ n → Marks dir ss k → Whole dir n
-whole dir ss k n e l marks j jl = ap (λ (m : ℕ). good dir m j) (sym l) ∙ marks.3 j (omega arith)

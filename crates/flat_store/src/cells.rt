@@ -7,7 +7,8 @@ pub struct Entry {
     pub len: usize,
 }
 
-// Room for one file. The first slots' `spare` list the slots that are free, whatever these slots hold.
+// Room for one file. The first slots' `spare` list the slots that are free, whatever these slots hold. While an image is
+// looked through, `spare` is the mark of a slot that a file has: one field for both, since the memory is the caller's.
 #[derive(Clone, Copy)]
 pub struct Slot {
     pub spare: usize,

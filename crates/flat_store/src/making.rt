@@ -10,8 +10,7 @@ use crate::taking::{list_free, look_through};
 use store::keys::KEYS;
 
 // No key has a file, and each slot is free. Answers how many they are.
-fn wipe(dir: &mut [Option<Entry>], slots: &mut [Slot]) -> usize
-    requires { length dir.old ≡ key_count }
+fn wipe(dir: &mut [Option<Entry>; KEYS], slots: &mut [Slot]) -> usize
     ensures sound { Kept dir.new slots.new result }
     ensures files { image_files dir.new slots.new ≡ replicate key_count None }
 {
@@ -23,8 +22,7 @@ fn wipe(dir: &mut [Option<Entry>], slots: &mut [Slot]) -> usize
 }
 
 // Lists the free slots of a whole image; a damaged one is emptied first. Answers how many they are.
-fn settle(dir: &mut [Option<Entry>], slots: &mut [Slot]) -> usize
-    requires { length dir.old ≡ key_count }
+fn settle(dir: &mut [Option<Entry>; KEYS], slots: &mut [Slot]) -> usize
     ensures sound { Kept dir.new slots.new result }
     ensures whole { Whole dir.old (length slots.old) → image_files dir.new slots.new ≡ image_files dir.old slots.old }
     ensures damaged { (k : ℕ) → Damaged dir.old (length slots.old) k → image_files dir.new slots.new ≡ replicate key_count None }

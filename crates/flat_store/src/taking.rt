@@ -4,6 +4,7 @@ ghost use Rattle.flat_store.specs.Images.{blank, words_at, Fits};
 ghost use Rattle.flat_store.specs.Taking.{markable, marked, unnamed, Whole, Damaged, Marks, Free};
 
 use crate::cells::{Entry, Slot};
+use store::keys::KEYS;
 
 fn unmark(slots: &mut [Slot])
     ensures spare { (p : ℕ) → p < length slots.new → (slice_index_or slots.new p blank).spare ≡ 0 }
@@ -32,8 +33,7 @@ fn mark(entry: Entry, slots: &mut [Slot]) -> bool
 }
 
 // The first key whose entry is damaged. Files and entries stay as they are, and the marks tell the slots that no file has.
-pub(crate) fn look_through(dir: &[Option<Entry>], slots: &mut [Slot]) -> Option<usize>
-    requires { length dir.now ≡ key_count }
+pub(crate) fn look_through(dir: &[Option<Entry>; KEYS], slots: &mut [Slot]) -> Option<usize>
     ensures found { MatchOption result (Whole dir.now (length slots.old)) (Damaged dir.now (length slots.old)) }
     ensures marks { IfNone result (Marks dir.now slots.new key_count) }
     ensures words { (p : ℕ) → words_at slots.new p ≡ words_at slots.old p }

@@ -5,6 +5,7 @@ use Rattle.std.proofs.lemmas.Bool.{and_parts, and_from, false≢true}
 use Rattle.base.specs.declared.reasons.Refusal.{Refusal}
 use denote.Ref.{Bor}
 use Rattle.base.specs.declared.files.FileKind.{FileKind}
+use Rattle.package.specs.declared.files.File.{File as Wared}
 use Rattle.package.specs.declared.items.Item.{Item}
 use Rattle.package.specs.declared.items.Item.TheVariants.{File}
 use Rattle.package.specs.declared.items.Items.{Items}
@@ -13,6 +14,7 @@ use Rattle.package.specs.declared.items.Stage.TheVariants.{Package, NameAlone, V
 use Rattle.package.specs.Words.{content_length, file_kind, path, is_end}
 use Rattle.package.specs.Checks.{refusal}
 use Rattle.package.specs.Items.{Part, name_part, version_part, file_part, end_part, Handed, due_at, file_handed, item_at, left_from, part_of}
+use Rattle.package.specs.Files.{ware_of}
 use Rattle.package.specs.Wares.{Ware, wares, filing, ready}
 use Rattle.package.proofs.Tests.{some_none}
 use Rattle.package.proofs.ItemRuns.{got, got_run, lost_run}
@@ -91,17 +93,17 @@ module _ (items : Items) (on : ready items ≡ true) where
       and_from (filing rest.stage) _ (ap filing es ∙ fs) (ap (λ o. not (is_some o)) k)
 
 -- a file that a ready reader hands out, and the reader behind it
-pub record Turn (items rest : Items) (k : FileKind) (p : ℕ) (c : List ℕ) : Type 0 where
-  pub first : wares 0 (left_from items) ≡ record { kind = k; path = p; words = c } ∷ wares 0 (left_from rest)
+pub record Turn (items rest : Items) (f : Wared) : Type 0 where
+  pub first : wares 0 (left_from items) ≡ ware_of f ∷ wares 0 (left_from rest)
   pub behind : ready rest ≡ true
   pub fewer : length (wares 0 (left_from rest)) < length (wares 0 (left_from items))
 
-pub file_turn : (items rest : Items) (it : Item) (place : ℕ) (k : FileKind) (p : ℕ) (c : Bor (List ℕ)) → ready items ≡ true → it ≡ File k p c
+pub file_turn : (items rest : Items) (it : Item) (place : ℕ) (f : Wared) → ready items ≡ true → it ≡ File f
     → Ok (record { part = part_of it; place = place; behind = rest.place; stage = rest.stage }) ≡ item_at items.stage items.place (left_from items)
-    → rest.words.now ≡ items.words.now → Turn items rest k p c.now
-file_turn items rest it place k p c on file e same =
+    → rest.words.now ≡ items.words.now → Turn items rest f
+file_turn items rest it place f on file e same =
     let t = subst (λ (x : Item). Told (left_from items) (part_of x) rest.place rest.stage items.words.now) file (hands items on _ e) in
-    let f : wares 0 (left_from items) ≡ record { kind = k; path = p; words = c.now } ∷ wares 0 (left_from rest) =
-    t.0 ∙ ap (λ (xs : List ℕ). record { kind = k; path = p; words = c.now } ∷ wares 0 (drop rest.place xs)) (sym same) in
-    let l = ap length f in
-    record { first = f; behind = ready_behind items on rest _ e refl refl same t.1; fewer = omega arith }
+    let g : wares 0 (left_from items) ≡ ware_of f ∷ wares 0 (left_from rest) =
+    t.0 ∙ ap (λ (xs : List ℕ). ware_of f ∷ wares 0 (drop rest.place xs)) (sym same) in
+    let l = ap length g in
+    record { first = g; behind = ready_behind items on rest _ e refl refl same t.1; fewer = omega arith }

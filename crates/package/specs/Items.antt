@@ -111,7 +111,7 @@ item_at stage place (w ∷ ws) = judged (item_refusal stage place w ws) (handed 
 abbrev pub part_of : Item → Part
 part_of (Name ws) = name_part ws.now
 part_of (Version ws) = version_part ws.now
-part_of (File k p ws) = file_part k p ws.now
+part_of (File f) = file_part f.kind f.path f.content.now
 part_of End = end_part
 
 abbrev pub part_words : Part → List ℕ

@@ -1,15 +1,11 @@
-use base::FileKind;
+use crate::files::File;
 
 // One item of a package. Texts and contents are parts of the input words.
 #[derive(Clone, Copy)]
 pub enum Item<'a> {
     Name(&'a [u32]),
     Version(&'a [u32]),
-    File {
-        kind: FileKind,
-        path: u8,
-        content: &'a [u32],
-    },
+    File(File<'a>),
     End,
 }
 

@@ -34,19 +34,10 @@ impl<'a> Iterator for Files<'a> {
         let Ok(step) = self.items.next() else {
             return None;
         };
-        let Item::File {
-            kind,
-            path,
-            content,
-        } = step.item
-        else {
+        let Item::File(file) = step.item else {
             return None;
         };
         self.items = step.rest;
-        Some(File {
-            kind,
-            path,
-            content,
-        })
+        Some(file)
     }
 }

@@ -6,6 +6,7 @@ ghost use Rattle.package.specs.Checks.{nothing, refusal};
 ghost use Rattle.package.specs.Items.{Apart, content_refusal, file_handed, Hands, judged, left_from, name_handed, Same, shown, text_refusal, told};
 
 use crate::checks::{head_fault, item_fault, name_lengths, package_lengths};
+use crate::files::File;
 use crate::items::{Item, Items, Stage, Step};
 use crate::rules::TextRule;
 use crate::texts::skip_text;
@@ -156,11 +157,11 @@ impl<'a> Items<'a> {
             stage,
         };
         Ok(Step {
-            item: Item::File {
+            item: Item::File(File {
                 kind,
                 path,
                 content,
-            },
+            }),
             place: self.place,
             rest,
         })

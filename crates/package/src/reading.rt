@@ -11,6 +11,7 @@ use crate::parts::Parts;
 use base::{Name, Refusal};
 
 impl Items<'_> {
+    // By recursion, as the definition of the first fault goes: each call is one line of it.
     // The first fault from here on: of the items up to the last one due, and of what stands behind it.
     fn finish(&self) -> Result<(), Refusal>
         ensures { told result ≡ refusal (due_at self.now.stage) self.now.place (left_from self.now) }
@@ -30,7 +31,7 @@ fn text_words<'a>(item: Item<'a>) -> &'a [u32]
     match item {
         Item::Name(text) => text,
         Item::Version(text) => text,
-        Item::File { content, .. } => content,
+        Item::File(file) => file.content,
         Item::End => &[],
     }
 }

@@ -1,7 +1,8 @@
 use base::{FileKind, ShortText};
 use table::Element;
 
-// Whether a package must be installed anew before anything else can be done with it.
+// Whether a package must be installed anew before anything else can be done with it. It stands beside the state, as in the
+// text of the status; a state that held it would be a narrower type, and ask more of who makes a record.
 #[derive(Clone, Copy, PartialEq, Eq, Debug)]
 pub enum Flag {
     Ok,

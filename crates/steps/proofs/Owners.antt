@@ -84,11 +84,5 @@ own_closed pass n except (o ∷ os) f r q =
         ap (λ (t : Bool). own_sides n (except q) pass (owner_of q os) (cond t (own_sides n (except o.path) pass (Some o) (f q)) (f q)))
         (ne_eqb q o.path (λ s. both_ways (meets ltb o.path q) e (same_meets numbers_total o.path q (sym s))))
 
--- two tests that decide one thing are one test
-pub both_decide : {X : Type 0} (p q : Bool) → Decides p X → Decides q X → p ≡ q
-both_decide true q d e = sym (e.1 (d.0 refl))
-both_decide false true d e = d.1 (e.0 refl)
-both_decide false false d e = refl
-
 pub names_meet : (a b : ShortText) → Decides (meets by_bytes a b) (a ≡ b)
 names_meet a b = (meets_same names_total a b, same_meets names_total a b)

@@ -1,4 +1,4 @@
-// What came of laying a file.
+// What came of laying a file. No `Result`: what was set aside counts also where the store refused the file.
 #[derive(Clone, Copy)]
 pub struct Laid {
     // the store took the file

@@ -6,7 +6,8 @@ pub struct Before {
     pub(crate) aside: usize,
 }
 
-// The same past the point: there is no way back. It is a type of its own so that the compiler refuses one.
+// The same past the point: there is no way back. It is a type of its own so that the compiler refuses one; the two have no
+// parameter in common, since nothing but their two numbers would be shared.
 #[must_use]
 pub struct Past {
     pub(crate) touched: usize,

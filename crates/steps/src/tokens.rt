@@ -11,6 +11,9 @@ use base::FileKind;
 use package::Package;
 use store::api::Store;
 
+// Each promise stands twice: over the files that the package yields, and over those that its words hold, of which a caller
+// knows that no path stands twice.
+
 // Lays the files of a package, one by one. `Err` where the store refuses one; what was done until then is in the token.
 pub fn lay_all<S: Store>(store: &mut S, new: &Package<'_>) -> Result<Before, Before>
     ensures laid { Lays S.Store.block (S.Store.units store.old) (files_of new.now) (sides_at (S.Store.files store.old)) result (sides_at (S.Store.files store.new)) }

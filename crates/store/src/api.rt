@@ -22,6 +22,7 @@ pub trait Store {
         ensures { result ≡ block };
 
     // Holds the words under the key, in the place of what was there; false where that is refused, and then nothing changes.
+    // A `bool`: it answers the test `admits`, by which the clauses above the stores tell one way from the other.
     fn put(&mut self, key: usize, words: &[u32]) -> bool
         ensures answer { result ≡ admits block (units self.old) (files self.old) key words.now }
         ensures files { files self.new ≡ (if result then slice_set (files self.old) key (Some words.now) else files self.old) }

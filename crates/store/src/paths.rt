@@ -6,6 +6,7 @@ use crate::keys::key;
 use crate::side::Side;
 
 // The store's three calls on one side of a path. Their contracts speak of paths alone, as what is built on a store does.
+// That the units stay is said at each call: it tells what the call leaves alone, and no type can say that.
 
 pub fn put_side<S: Store>(store: &mut S, path: u8, side: Side, words: &[u32]) -> bool
     ensures answer { result ≡ admits_side S.Store.block (S.Store.units store.old) (sides_at (S.Store.files store.old)) path side words.now }

@@ -8,7 +8,7 @@ use Rattle.flat_store.proofs.making.wipe.Goals as goal
 pub returns : goal.returns
 returns c =
     let ss = c.loop-i.slots in
-    let e : c.fill.new.self ≡ replicate key_count None = c.fill.ensures.after (λ y h. search rules) ∙ ap (λ n. replicate n None) c.requires in
+    let e : c.fill.new.self ≡ replicate key_count None = c.fill.ensures.after (λ y h. search rules) ∙ ap (λ n. replicate n None) c.told-dir in
     let P : List (Option Entry) → Type 0 = λ d. Kept d ss (length ss) in
     record {
       sound = subst P (sym e) (new_kept ss (λ i h. c.loop-i.invariant i (omega (arith, c.loop-i.auto.slots))));

@@ -6,14 +6,14 @@ returns-in_default-clause-steps c = absurd (hands_no_fault c.args.self.now.items
 
 pub invariant_of-self : goal.invariant_of-self
 invariant_of-self c =
-    let t = file_turn c.args.self.now.items c.in-Ok.step.rest c.in-Ok.step.item c.in-Ok.step.place c.in-File.kind c.in-File.path c.in-File.content c.args.self.now.sound c.in-File.is c.in-Ok.ensures.item c.in-Ok.ensures.same in
+    let t = file_turn c.args.self.now.items c.in-Ok.step.rest c.in-Ok.step.item c.in-Ok.step.place c.in-File.file c.args.self.now.sound c.in-File.is c.in-Ok.ensures.item c.in-Ok.ensures.same in
     record { sound = t.behind }
 
 pub returns-clause-steps : goal.returns-clause-steps
 returns-clause-steps c =
-    (file_turn c.args.self.now.items c.in-Ok.step.rest c.in-Ok.step.item c.in-Ok.step.place c.in-File.kind c.in-File.path c.in-File.content c.args.self.now.sound c.in-File.is c.in-Ok.ensures.item c.in-Ok.ensures.same).first
+    (file_turn c.args.self.now.items c.in-Ok.step.rest c.in-Ok.step.item c.in-Ok.step.place c.in-File.file c.args.self.now.sound c.in-File.is c.in-Ok.ensures.item c.in-Ok.ensures.same).first
 
 pub returns-clause-goes : goal.returns-clause-goes
 returns-clause-goes c =
-    let t = file_turn c.args.self.now.items c.in-Ok.step.rest c.in-Ok.step.item c.in-Ok.step.place c.in-File.kind c.in-File.path c.in-File.content c.args.self.now.sound c.in-File.is c.in-Ok.ensures.item c.in-Ok.ensures.same in
+    let t = file_turn c.args.self.now.items c.in-Ok.step.rest c.in-Ok.step.item c.in-Ok.step.place c.in-File.file c.args.self.now.sound c.in-File.is c.in-Ok.ensures.item c.in-Ok.ensures.same in
     record { on = λ _. (tt, tt, t.fewer); keeps = tt; rests = λ _. tt }
