@@ -28,11 +28,7 @@ pub fn head_fault(lengths: bool, word: Word) -> Option<Reason>
     if !word.is_head() {
         return Some(Reason::WrongWord);
     }
-    if lengths {
-        None
-    } else {
-        Some(Reason::OutsideLimits)
-    }
+    (!lengths).then_some(Reason::OutsideLimits)
 }
 
 fn right_count(rule: TextRule, left: usize, count: usize) -> bool
@@ -68,11 +64,8 @@ pub fn text_fault(rule: TextRule, left: usize, begun: bool, word: Word) -> Optio
     if !word.is_text() {
         return Some(Reason::WrongWord);
     }
-    if right_count(rule, left, word.byte_count()) && right_bytes(rule, begun, word) {
-        None
-    } else {
-        Some(Reason::OutsideLimits)
-    }
+    let right = right_count(rule, left, word.byte_count()) && right_bytes(rule, begun, word);
+    (!right).then_some(Reason::OutsideLimits)
 }
 
 // What is wrong with the first word of a file, or with the end word.
@@ -80,11 +73,7 @@ pub fn item_fault(files: usize, floor: usize, place: usize, word: Word) -> Optio
     ensures { result ≡ item_fault files floor place word.0 }
 {
     if word.is_end() {
-        return if word.end_count() == place {
-            None
-        } else {
-            Some(Reason::WrongEndCount)
-        };
+        return (word.end_count() != place).then_some(Reason::WrongEndCount);
     }
     if !word.is_file() {
         return Some(Reason::WrongWord);
@@ -92,9 +81,5 @@ pub fn item_fault(files: usize, floor: usize, place: usize, word: Word) -> Optio
     if files >= 24 || word.content_length() > 32 {
         return Some(Reason::OutsideLimits);
     }
-    if floor <= word.path() as usize {
-        None
-    } else {
-        Some(Reason::PathNotRising)
-    }
+    (floor > word.path() as usize).then_some(Reason::PathNotRising)
 }
