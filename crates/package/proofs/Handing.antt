@@ -3,8 +3,6 @@ use Rattle.std.proofs.Common.{◌≡◌, ℕ, zero, suc, ◌+◌, Bool, true, fa
 use Rattle.std.proofs.lemmas.List.{drop-drop}
 use Rattle.std.proofs.lemmas.Bool.{and_parts, and_from, false≢true}
 use Rattle.base.specs.declared.reasons.Refusal.{Refusal}
-use denote.Ref.{Bor}
-use Rattle.base.specs.declared.files.FileKind.{FileKind}
 use Rattle.package.specs.declared.files.File.{File as Wared}
 use Rattle.package.specs.declared.items.Item.{Item}
 use Rattle.package.specs.declared.items.Item.TheVariants.{File}
