@@ -1,9 +1,9 @@
 -- What books hold.
 use Rattle.std.specs.Prelude.{ℕ, List}
+use Rattle.writer.specs.Items.{items_in, space}
 use Rattle.host.specs.declared.line.Line.{Line}
 use Rattle.status.specs.declared.rows.Record.{Record}
 use Rattle.status.specs.declared.rows.Owned.{Owned}
-use Rattle.host.specs.Traces.{lines_in, space}
 use Rattle.table.specs.Answers.{live}
 use Rattle.books.specs.declared.books.Books.{Books}
 
@@ -18,6 +18,6 @@ abbrev pub ledger : Books → Ledger
 ledger b = record {
   records = live b.records;
   owners = live b.owners;
-  lines = lines_in b.trace;
+  lines = items_in b.trace;
   space = space b.trace;
 }

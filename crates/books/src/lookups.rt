@@ -50,7 +50,7 @@ impl<'a> Books<'a> {
     pub fn lines(&self) -> &[Line]
         ensures { result.now ≡ (ledger self.now).lines }
     {
-        self.trace.lines()
+        self.trace.items()
     }
 
     // The record of a package.

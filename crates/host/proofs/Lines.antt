@@ -5,7 +5,7 @@ use Rattle.std.proofs.lemmas.Bool.{lt-leb}
 use Rattle.base.specs.declared.reasons.Reason.{Reason}
 use Rattle.base.specs.declared.reasons.Reason.TheVariants.{WrongValue, BufferShort}
 use Rattle.base.specs.declared.reasons.Refusal.{Refusal}
-use Rattle.writer.specs.declared.page.Page.{Page}
+use Rattle.writer.specs.declared.lent.Lent.{Lent}
 use Rattle.writer.specs.Pages.{Stopped}
 use Rattle.host.specs.declared.line.Line.{Line}
 use Rattle.host.specs.Rows.{sound}
@@ -59,27 +59,27 @@ written_short : (room : ℕ) (text : List ℕ) (l : Line) (ls : List Line) → s
 written_short room text l ls s h = rw (s, lt-leb (length (text ++ line_text l)) room h) refl
 
 -- The page holds the text of the lines before the place i, and what is left comes to the same.
-pub record Goes (room : ℕ) (page first : Page) (i : ℕ) (lines : List Line) : Type 0 where
-  pub left : writes room (take page.count page.bytes.now) (drop i lines) ≡ writes room [] lines
-  pub room_kept : length page.bytes.now ≡ room
-  pub same_reference : page.bytes.ghost_name ≡ first.bytes.ghost_name
+pub record Goes (room : ℕ) (page first : Lent ℕ) (i : ℕ) (lines : List Line) : Type 0 where
+  pub left : writes room (take page.count page.items.now) (drop i lines) ≡ writes room [] lines
+  pub room_kept : length page.items.now ≡ room
+  pub same_reference : page.items.ghost_name ≡ first.items.ghost_name
 
 at_line : (room : ℕ) (text : List ℕ) (i : ℕ) (lines : List Line) (d : Line) → i < length lines → writes room text (drop i lines) ≡ writes room text (get_or lines i d ∷ drop (i + 1) lines)
 at_line room text i lines d h = at_drop_more (writes room text) lines i d h
 
-pub goes_bad : (room : ℕ) (page first : Page) (i : ℕ) (lines : List Line) (d : Line) → i < length lines → sound (get_or lines i d) ≡ false
-    → Goes room page first i lines → (Some WrongValue, take page.count page.bytes.now) ≡ writes room [] lines
+pub goes_bad : (room : ℕ) (page first : Lent ℕ) (i : ℕ) (lines : List Line) (d : Line) → i < length lines → sound (get_or lines i d) ≡ false
+    → Goes room page first i lines → (Some WrongValue, take page.count page.items.now) ≡ writes room [] lines
 goes_bad room page first i lines d h s g =
-    let text = take page.count page.bytes.now in
+    let text = take page.count page.items.now in
     sym (written_bad room text (get_or lines i d) (drop (i + 1) lines) s) ∙ sym (at_line room text i lines d h) ∙ g.left
 
-pub goes_short : (room : ℕ) (page page' first : Page) (i : ℕ) (lines : List Line) (d : Line) → i < length lines → sound (get_or lines i d) ≡ true
-    → Goes room page first i lines → Stopped (line_text (get_or lines i d)) page page' → (Some BufferShort, take page.count page'.bytes.now) ≡ writes room [] lines
+pub goes_short : (room : ℕ) (page page' first : Lent ℕ) (i : ℕ) (lines : List Line) (d : Line) → i < length lines → sound (get_or lines i d) ≡ true
+    → Goes room page first i lines → Stopped (line_text (get_or lines i d)) page page' → (Some BufferShort, take page.count page'.items.now) ≡ writes room [] lines
 goes_short room page page' first i lines d h s g w =
     let l = get_or lines i d in
-    let text = take page.count page.bytes.now in
-    let wide : room < length (text ++ line_text l) = omega (arith, length-append text (line_text l), length-take-le page.count page.bytes.now page.fits, w.lacks, g.room_kept) in
+    let text = take page.count page.items.now in
+    let wide : room < length (text ++ line_text l) = omega (arith, length-append text (line_text l), length-take-le page.count page.items.now page.fits, w.lacks, g.room_kept) in
     ap (λ (x : List ℕ). (Some BufferShort, x)) w.front ∙ sym (written_short room text l (drop (i + 1) lines) s wide) ∙ sym (at_line room text i lines d h) ∙ g.left
 
-pub goes_out : (room : ℕ) (page first : Page) (i : ℕ) (lines : List Line) → length lines ≤ i → Goes room page first i lines → (None, take page.count page.bytes.now) ≡ writes room [] lines
-goes_out room page first i lines h g = sym (at_drop_all (writes room (take page.count page.bytes.now)) lines i h) ∙ g.left
+pub goes_out : (room : ℕ) (page first : Lent ℕ) (i : ℕ) (lines : List Line) → length lines ≤ i → Goes room page first i lines → (None, take page.count page.items.now) ≡ writes room [] lines
+goes_out room page first i lines h g = sym (at_drop_all (writes room (take page.count page.items.now)) lines i h) ∙ g.left

@@ -2,12 +2,12 @@
 use Rattle.std.specs.Prelude.{◌≡◌, ℕ, ◌+◌, ◌%◌, ◌^◌, ◌≤◌, Bool, List, [], ◌∷◌, Some, None, Option, ◌==◌}
 use Rattle.base.specs.declared.texts.ShortText.{ShortText}
 use Rattle.base.specs.Named.{Version}
+use Rattle.writer.specs.declared.lent.Lent.{Lent}
+use Rattle.writer.specs.Items.{OneMore, space}
 use Rattle.host.specs.declared.calls.Argument.{Argument}
 use Rattle.host.specs.declared.calls.Argument.TheVariants.{Version as version_of, Null, Nothing}
 use Rattle.host.specs.declared.calls.Call.{Call}
 use Rattle.host.specs.declared.line.Line.{Line}
-use Rattle.host.specs.declared.trace.Trace.{Trace}
-use Rattle.host.specs.Traces.{OneMore, space}
 
 -- the status that each call would get now, the latest call or none, and the count of runs modulo 2^64
 pub record Meaning : Type 0 where
@@ -53,15 +53,15 @@ pub data Runs : Meaning → List Line → Meaning → Type 0 where
   more : {m m' m'' : Meaning} {rest : List Line} (c : Call) (s : ℕ) → Ran m c s m' → Runs m' rest m'' → Runs m (line c s ∷ rest) m''
 
 -- The call was run with the status s, and the trace has one line more: that of the host's latest call and the status.
-pub record Noted (c : Call) (s : ℕ) (m m' : Meaning) (t t' : Trace) : Type 0 where
+pub record Noted (c : Call) (s : ℕ) (m m' : Meaning) (t t' : Lent Line) : Type 0 where
   pub ran : Ran m c s m'
   pub of_latest : call_line m'.latest s ≡ Some (line c s)
   pub noted : OneMore (line c s) t t'
 
 -- A call was asked: it has been run and has its line; or there was no room for a line, and nothing changed.
-abbrev pub Asked : Call → Option ℕ → Meaning → Meaning → Trace → Trace → Type 0
+abbrev pub Asked : Call → Option ℕ → Meaning → Meaning → Lent Line → Lent Line → Type 0
 Asked c (Some s) m m' t t' = Noted c s m m' t t'
-Asked c None m m' t t' = (space t ≤ t.used) × (t' ≡ t)
+Asked c None m m' t t' = (space t ≤ t.count) × (t' ≡ t)
 
 -- Where nothing was run, the host itself is as it was.
 abbrev pub Keeps : {H : Type 0} → Option ℕ → H → H → Type 0

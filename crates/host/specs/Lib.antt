@@ -1,5 +1,4 @@
 pub mod Calls
-pub mod Traces
 pub mod Hosts
 pub mod Rows
 pub mod Lines

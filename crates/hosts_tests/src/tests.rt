@@ -82,7 +82,7 @@ fn no_run_without_room(rt: HostRuntime) -> Result<(), Fail> {
     assert_eq!(rt; ask(&mut host, &mut trace, other), Some(0));
     assert_eq!(rt; ask(&mut host, &mut trace, call), None);
     assert_eq!(rt; host.count(), 2);
-    let lines = trace.lines();
+    let lines = trace.items();
     assert_eq!(rt; lines.len(), 2);
     assert!(rt; lines[0].tells(call) && lines[1].tells(other));
     Ok(())

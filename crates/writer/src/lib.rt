@@ -1,7 +1,9 @@
-// Text written piece by piece into a lent buffer.
+// Lent memory that is filled from its first item on: with text, piece by piece, or with one item after the other.
 #![tactic(auto)]
 
+mod items;
+mod lent;
 mod page;
-mod puts;
 
-pub use page::{Full, Page};
+pub use lent::{Full, Lent};
+pub use page::Page;

@@ -1,41 +1,18 @@
-ghost use Rattle.std.specs.Prelude.{◌≡◌, ◌<◌, ◌≤◌, length, MatchOption};
+ghost use Rattle.std.specs.Prelude.{decimal};
+ghost use Rattle.writer.specs.Pages.{Puts};
 
-// A lent buffer whose first `count` bytes are written. The bytes behind them are free.
-#[derive(Drop)]
-pub struct Page<'a> {
-    pub(crate) bytes: &'a mut [u8],
-    pub(crate) count: usize,
-    ghost fits: { count ≤ length bytes.now },
-}
+use crate::lent::{Full, Lent};
+use itoa::Buffer;
 
-// There is no room for what was to be added.
-#[derive(Clone, Copy, Debug, PartialEq, Eq)]
-pub struct Full;
+// A lent buffer for text.
+pub type Page<'a> = Lent<'a, u8>;
 
 impl<'a> Page<'a> {
-    // The whole buffer is free.
-    pub fn new(bytes: &'a mut [u8]) -> Page<'a>
-        ensures same_reference { result.bytes.ghost_name ≡ bytes.entry.ghost_name }
-        ensures bytes { result.bytes.now ≡ bytes.old }
-        ensures count { result.count ≡ 0 }
+    // Adds a number below 256 in decimal.
+    pub fn put_number(&mut self, number: u8) -> Result<(), Full>
+        ensures { Puts result (decimal number) self.old self.new }
     {
-        Page { bytes, count: 0 }
-    }
-
-    // The first `count` bytes are written already; nothing where there are not so many.
-    pub fn resume(bytes: &'a mut [u8], count: usize) -> Option<Page<'a>>
-        ensures { MatchOption result (length bytes.old < count) (λ page. (page.bytes.now ≡ bytes.old) × (page.count ≡ count) × (page.bytes.ghost_name ≡ bytes.entry.ghost_name)) }
-    {
-        if bytes.len() < count {
-            return None;
-        }
-        Some(Page { bytes, count })
-    }
-
-    // How many bytes are written.
-    pub fn count(&self) -> usize
-        ensures { result ≡ self.now.count }
-    {
-        self.count
+        let mut digits = Buffer::new();
+        self.put(digits.format(number).as_bytes())
     }
 }

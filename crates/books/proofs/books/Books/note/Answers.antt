@@ -1,6 +1,6 @@
 use Rattle.std.proofs.Common.{refl}
 use Rattle.std.specs.Prelude.{is_ok}
-use Rattle.host.specs.Traces.{lines_in, space}
+use Rattle.writer.specs.Items.{items_in, space}
 use Rattle.table.specs.Answers.{live}
 use Rattle.books.proofs.Notes.{noted}
 use Rattle.books.proofs.books.Books.note.Goals as goal
@@ -12,7 +12,7 @@ returns c =
     record {
       told = n.told;
       added = n.added;
-      same = λ e i. record { records = live b.records; owners = live b.owners; lines = lines_in (n.same e i); space = space (n.same e i) };
+      same = λ e i. record { records = live b.records; owners = live b.owners; lines = items_in (n.same e i); space = space (n.same e i) };
       records = refl;
       owners = refl;
       space = n.space;
