@@ -2,15 +2,13 @@
 use Rattle.std.proofs.Common.{◌≡◌, Bool, true, false, cond, ◌&&◌, is_some, Some, None, Option, sym, refl, ap}
 use Rattle.std.proofs.lemmas.Bool.{and_from, and_left, and_right}
 use Rattle.base.specs.Texts.{name_row, version_row}
-use Rattle.base.specs.declared.texts.ShortText.{ShortText}
 use Rattle.base.specs.Named.{Name}
 use Rattle.base.specs.Named.{Version}
 use Rattle.host.specs.declared.calls.Argument.{Argument}
-use Rattle.host.specs.declared.calls.Argument.TheVariants.{Version as version_of}
 use Rattle.host.specs.declared.calls.Call.{Call}
 use Rattle.host.specs.declared.line.Line.{Line}
 use Rattle.host.specs.Hosts.{argument_row, line, call_line}
-use Rattle.host.specs.Rows.{sound, sound_argument, argument_if, argument_rows, line_if}
+use Rattle.host.specs.Rows.{sound, sound_argument, argument_if, line_if}
 
 -- a value that passed its test, and one that did not
 pub passed : {A : Type 0} (b : Bool) (x y : A) → Some x ≡ cond b (Some y) None → (b ≡ true) × (x ≡ y)
@@ -28,14 +26,6 @@ kept false x y h e = cc
 pub lost : {A : Type 0} (b : Bool) (y : A) → b ≡ false → None ≡ cond b (Some y) None
 lost true y h = cc
 lost false y h = refl
-
-pub argument_some : (v : Version) (row : ShortText) → Some v.row ≡ cond (version_row row.bytes) (Some row) None → argument_rows (Some (version_of v)) ≡ argument_if (version_of row)
-argument_some v row e =
-    let p = passed (version_row row.bytes) v.row row e in
-    kept (version_row row.bytes) (version_of v.row) (version_of row) p.0 (ap (λ (x : ShortText). version_of x) p.1)
-
-pub argument_none : (row : ShortText) → None ≡ cond (version_row row.bytes) (Some row) None → None ≡ argument_if (version_of row)
-argument_none row e = lost (version_row row.bytes) (version_of row) (failed (version_row row.bytes) row e)
 
 pub call_some : (n : Name) (v : Version) (a : Argument Version) (l : Line) → Some n.row ≡ cond (name_row l.name.bytes) (Some l.name) None
     → Some v.row ≡ cond (version_row l.version.bytes) (Some l.version) None → Some (argument_row a) ≡ argument_if l.argument

@@ -1,4 +1,3 @@
-pub mod Notes
 mod Checks
 mod Lines
 mod Tells
