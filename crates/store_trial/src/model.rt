@@ -44,15 +44,13 @@ impl Model {
 
     // What all other files cost.
     fn others(&self, key: usize) -> usize {
-        let mut sum: usize = 0;
-        for (k, file) in self.files.as_slice().iter().enumerate() {
-            if let Some(file) = file
-                && k != key
-            {
-                sum = sum.saturating_add(self.cost(file.len));
-            }
-        }
-        sum
+        self.files
+            .as_slice()
+            .iter()
+            .enumerate()
+            .filter(|(k, _)| *k != key)
+            .filter_map(|(_, file)| file.as_ref())
+            .fold(0, |sum, file| sum.saturating_add(self.cost(file.len)))
     }
 
     pub fn put(&mut self, key: usize, words: &[u32]) -> bool {
