@@ -33,12 +33,14 @@ fn byte_count(content: &[u32]) -> usize {
     })
 }
 
-fn file_line(file: File<'_>) -> FileLine {
-    FileLine {
-        kind: file.kind,
-        path: file.path,
-        words: file.content.len(),
-        bytes: byte_count(file.content),
+impl From<File<'_>> for FileLine {
+    fn from(file: File<'_>) -> FileLine {
+        FileLine {
+            kind: file.kind,
+            path: file.path,
+            words: file.content.len(),
+            bytes: byte_count(file.content),
+        }
     }
 }
 
@@ -50,7 +52,7 @@ pub(crate) fn listing(
 ) -> anyhow::Result<String> {
     let name = String::from_utf8_lossy(heap, package.name.as_bytes())?;
     let version = String::from_utf8_lossy(heap, package.version.as_bytes())?;
-    let files: Vec<FileLine> = package.files().map(file_line).collect(heap)?;
+    let files: Vec<FileLine> = package.files().map(FileLine::from).collect(heap)?;
     let mut text = format!(in heap; "package {name} {version}\n")?;
     for file in files.iter() {
         writeln!(text, "{file}")?;

@@ -37,6 +37,9 @@ fn push_text(words: &mut Vec<u32>, text: &[u8]) -> Result<(), AllocError>
     Ok(())
 }
 
+// The masks below cut nothing: a name and a version have at most 16 bytes, a content 96, and more than 806 words are no
+// package, as the core finds, which reads the words again before they are written.
+
 // The words of a file: its own, and its content, of which three bytes go into a word.
 fn push_file(words: &mut Vec<u32>, file: &Entry) -> Result<(), AllocError> {
     let kind = match file.kind {

@@ -1,59 +1,35 @@
-use std::alloc::{AllocError, AllocFailed};
-use std::fmt;
+use std::alloc::AllocError;
+use thiserror::Error;
 
 // What is wrong with a line of a description.
-#[derive(Clone, Copy)]
+#[derive(Debug, Drop, Error)]
 pub enum Mistake {
+    #[error("a line begins with package, plain, conffile, end or #")]
     UnknownWord,
+    #[error("the package line comes first")]
     NoPackageYet,
+    #[error("there is one package line")]
     SecondPackage,
+    #[error("a package line has a name and a version")]
     NotTwoWords,
+    #[error("a name has 2 to 16 of a-z, 0-9 and +-., the first a letter or digit")]
     BadName,
+    #[error("a version has 1 to 16 of a-z, A-Z, 0-9 and .+-~:, the first a digit")]
     BadVersion,
+    #[error("a path is a number from 0 to 255")]
     BadPath,
+    #[error("a content stands between double quotes")]
     NoQuotes,
+    #[error("a double quote inside a content is written \\\"")]
     BareQuote,
+    #[error("behind a backslash stands n, \" or another backslash")]
     UnknownEscape,
+    #[error("a content has at most 96 bytes")]
     LongContent,
+    #[error("nothing stands behind the end line")]
     WordsAfterEnd,
+    #[error("the end line is missing")]
     NoEnd,
-    NoMemory,
-}
-
-impl From<AllocError> for Mistake {
-    fn from(_e: AllocError) -> Mistake {
-        Mistake::NoMemory
-    }
-}
-
-impl<T: Drop> From<AllocFailed<T>> for Mistake {
-    fn from(_e: AllocFailed<T>) -> Mistake {
-        Mistake::NoMemory
-    }
-}
-
-fn meaning(mistake: Mistake) -> &'static str {
-    match mistake {
-        Mistake::UnknownWord => "a line begins with package, plain, conffile, end or #",
-        Mistake::NoPackageYet => "the package line comes first",
-        Mistake::SecondPackage => "there is one package line",
-        Mistake::NotTwoWords => "a package line has a name and a version",
-        Mistake::BadName => "a name has 2 to 16 of a-z, 0-9 and +-., the first a letter or digit",
-        Mistake::BadVersion =>
-            "a version has 1 to 16 of a-z, A-Z, 0-9 and .+-~:, the first a digit",
-        Mistake::BadPath => "a path is a number from 0 to 255",
-        Mistake::NoQuotes => "a content stands between double quotes",
-        Mistake::BareQuote => "a double quote inside a content is written \\\"",
-        Mistake::UnknownEscape => "behind a backslash stands n, \" or another backslash",
-        Mistake::LongContent => "a content has at most 96 bytes",
-        Mistake::WordsAfterEnd => "nothing stands behind the end line",
-        Mistake::NoEnd => "the end line is missing",
-        Mistake::NoMemory => "out of memory",
-    }
-}
-
-impl fmt::Display for Mistake {
-    fn fmt<W: fmt::Write>(&self, f: &mut fmt::Formatter<W>) -> fmt::Result {
-        f.write_str(meaning(*self))
-    }
+    #[error("out of memory")]
+    NoMemory(#[from(alloc)] AllocError),
 }

@@ -5,42 +5,20 @@ use crate::mistakes::Mistake;
 use base::Refusal;
 use package::read_package;
 use std::alloc::{AllocError, Global};
-use std::fmt;
+use thiserror::Error;
 use wordfile::Told;
 
 // Why no package was made.
-#[derive(Clone, Copy)]
+#[derive(Debug, Drop, Error)]
 pub enum Fault {
     // a line of the description, counted from 1
+    #[error("line {0}: {1}")]
     InLine(usize, Mistake),
     // a description whose package is outside the rules
-    Refused(Refusal),
-    NoMemory,
-}
-
-impl From<AllocError> for Fault {
-    fn from(_e: AllocError) -> Fault {
-        Fault::NoMemory
-    }
-}
-
-impl From<Refusal> for Fault {
-    fn from(refusal: Refusal) -> Fault {
-        Fault::Refused(refusal)
-    }
-}
-
-impl fmt::Display for Fault {
-    fn fmt<W: fmt::Write>(&self, f: &mut fmt::Formatter<W>) -> fmt::Result {
-        match *self {
-            Fault::InLine(line, mistake) => write!(f, "line {line}: {mistake}"),
-            Fault::Refused(refusal) => {
-                let told = Told(refusal);
-                write!(f, "{told}")
-            }
-            Fault::NoMemory => f.write_str("out of memory"),
-        }
-    }
+    #[error("{told}", told = Told(*.0))]
+    Refused(#[from] Refusal),
+    #[error("out of memory")]
+    NoMemory(#[from(alloc)] AllocError),
 }
 
 // A description as far as it is read.
@@ -48,6 +26,7 @@ impl fmt::Display for Fault {
 struct Draft {
     head: Option<Head>,
     files: Vec<Entry>,
+    // a flag of its own: what may stand behind the end is another question than whether there was a head
     ended: bool,
 }
 
@@ -73,13 +52,10 @@ impl Draft {
     // The whole description.
     fn finish(self) -> Result<Description, Mistake> {
         let Draft { head, files, ended } = self;
-        let Some(head) = head else {
-            return Err(Mistake::NoEnd);
-        };
-        if !ended {
-            return Err(Mistake::NoEnd);
+        match head {
+            Some(head) if ended => Ok(Description { head, files }),
+            _ => Err(Mistake::NoEnd),
         }
-        Ok(Description { head, files })
     }
 }
 
@@ -91,9 +67,9 @@ fn parse(heap: Global, text: &str) -> Result<Description, Fault> {
         ended: false,
     };
     for (i, line) in text.lines().enumerate() {
-        if let Err(mistake) = draft.add_text(heap, line) {
-            return Err(Fault::InLine(i.saturating_add(1), mistake));
-        }
+        draft
+            .add_text(heap, line)
+            .map_err(|mistake| Fault::InLine(i.saturating_add(1), mistake))?;
     }
     let behind = text.lines().count().saturating_add(1);
     draft
@@ -105,8 +81,6 @@ fn parse(heap: Global, text: &str) -> Result<Description, Fault> {
 pub(crate) fn pack(heap: Global, text: &str) -> Result<Vec<u32>, Fault> {
     let description = parse(heap, text)?;
     let words = encode(heap, &description)?;
-    if let Err(refusal) = read_package(words.as_slice()) {
-        return Err(refusal.into());
-    }
+    read_package(words.as_slice())?;
     Ok(words)
 }

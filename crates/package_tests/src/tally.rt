@@ -33,28 +33,19 @@ pub(crate) const fn at(number: u8, place: usize, layer: u8) -> Expected {
 }
 
 fn is_package(words: &[u32], name: &[u8], version: &[u8], files: usize) -> bool {
-    match read_package(words) {
-        Ok(package) => {
-            package.name.as_bytes() == name
-                && package.version.as_bytes() == version
-                && package.files().count() == files
-        }
-        Err(_) => false,
-    }
+    read_package(words).is_ok_and(|package| {
+        package.name.as_bytes() == name
+            && package.version.as_bytes() == version
+            && package.files().count() == files
+    })
 }
 
 fn is_name(words: &[u32], name: &[u8]) -> bool {
-    match read_name(words) {
-        Ok(found) => found.as_bytes() == name,
-        Err(_) => false,
-    }
+    read_name(words).is_ok_and(|found| found.as_bytes() == name)
 }
 
 fn is_refused<T: Drop>(answer: Result<T, Refusal>, expected: Expected) -> bool {
-    match answer {
-        Ok(_) => false,
-        Err(refusal) => expected.is(refusal),
-    }
+    answer.is_err_and(|refusal| expected.is(refusal))
 }
 
 impl Tally {

@@ -1,11 +1,8 @@
+use arrayvec::ArrayVec;
 use std::alloc::{AllocError, Global};
 
-// A file's words, in a buffer of the longest file's length: so no call of the model can fail for want of memory.
-#[derive(Clone, Copy)]
-struct File {
-    len: usize,
-    words: [u32; 32],
-}
+// A file's words, with room for the longest file: so no call of the model can fail for want of memory.
+type File = ArrayVec<u32, 32>;
 
 // The plain list: what each key holds, in order. Every question is answered by looking, every sum made anew.
 #[derive(Drop)]
@@ -27,8 +24,7 @@ impl Model {
 
     // The words of the key's file.
     pub fn file(&self, key: usize) -> Option<&[u32]> {
-        let file = self.files.get(key)?.as_ref()?;
-        file.words.get(..file.len)
+        Some(self.files.get(key)?.as_ref()?.as_slice())
     }
 
     fn set(&mut self, key: usize, file: Option<File>) {
@@ -44,36 +40,32 @@ impl Model {
 
     // What all other files cost.
     fn others(&self, key: usize) -> usize {
-        let mut sum: usize = 0;
-        for (k, file) in self.files.as_slice().iter().enumerate() {
-            if let Some(file) = file
-                && k != key
-            {
-                sum = sum.saturating_add(self.cost(file.len));
-            }
-        }
-        sum
+        self.files
+            .as_slice()
+            .iter()
+            .enumerate()
+            .filter(|(k, _)| *k != key)
+            .filter_map(|(_, file)| file.as_ref())
+            .fold(0, |sum, file| sum.saturating_add(self.cost(file.len())))
     }
 
     pub fn put(&mut self, key: usize, words: &[u32]) -> bool {
-        if words.len() > 32 || key > 1023 {
+        let Ok(file) = File::try_from(words) else {
+            return false;
+        };
+        if key > 1023 || self.others(key).saturating_add(self.cost(words.len())) > self.units {
             return false;
         }
-        if self.others(key).saturating_add(self.cost(words.len())) > self.units {
-            return false;
-        }
-        let mut all = [0; 32];
-        let len = words.len();
-        all[..len].copy_from_slice(words);
-        self.set(key, Some(File { len, words: all }));
+        self.set(key, Some(file));
         true
     }
 
     pub fn carry(&mut self, from: usize, to: usize) {
-        let file = self.files.get(from).copied().flatten();
-        if file.is_some() && to < 1024 && from != to {
-            self.set(to, file);
-            self.set(from, None);
+        if to > 1023 || from == to {
+            return;
+        }
+        if let Some(file) = self.files.get_mut(from).and_then(Option::take) {
+            self.set(to, Some(file));
         }
     }
 

@@ -1,7 +1,7 @@
 use base::{Reason, Refusal};
 use std::fmt;
 
-// What a reason means, in words.
+// What a reason means, in words. A function, since `Reason` is a type of the core, which prints nothing.
 fn meaning(reason: Reason) -> &'static str {
     match reason {
         Reason::EndsEarly => "the input ends too early",
