@@ -77,7 +77,7 @@ impl<'a> Chains<'a> {
         };
     }
 
-    // Frees the blocks of a key.
+    // Frees the blocks of a key. Each turn takes one off its chain, and there is no index to count.
     pub(crate) fn free(&mut self, key: usize)
         requires { key < key_count }
         ensures others { (j : ℕ) → (j ≢ key) → j < key_count → Same self.new self.old j }

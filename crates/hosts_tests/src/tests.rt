@@ -12,6 +12,7 @@ fn rule(script: u8, action: u8, status: u8) -> Rule {
     }
 }
 
+// By the numbers that manuals print, so that these are tested too.
 fn is_refused(refusal: Refusal, number: u8, place: usize, layer: u8) -> bool {
     refusal.reason.number() == number && refusal.place == place && refusal.layer.number() == layer
 }

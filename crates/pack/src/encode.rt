@@ -25,7 +25,8 @@ fn first_text_word(text: &[u8]) -> Option<(u32, &[u8])>
     }
 }
 
-// The words of a text, three bytes to a word.
+// The words of a text, three bytes to a word. By what is left, as its definition goes, and not by chunks: the last word may
+// have fewer bytes.
 fn push_text(words: &mut Vec<u32>, text: &[u8]) -> Result<(), AllocError>
     ensures { OnOk result (words.new.items ≡ words.old.items ++ text_words text.now) }
 {

@@ -10,7 +10,7 @@ use base::ShortText;
 use status::Owned;
 use store::api::Store;
 
-// Whether two rows hold the same name.
+// Whether two rows hold the same name: `==`, under the name that the clauses here and in the books have for it.
 pub fn same_name(a: ShortText, b: ShortText) -> bool
     ensures { result ≡ same_name a b }
 {

@@ -56,7 +56,8 @@ fn refused(rt: &HostRuntime, name: &str, damage: Option<usize>) -> anyhow::Resul
     Ok(())
 }
 
-// Each is taken up again as it was left; where two keys have one file, it is refused at the second.
+// Each is taken up again as it was left; where two keys have one file, it is refused at the second. Two functions, since the
+// two images lend different memory, and no trait speaks of images.
 fn flat_again(
     rt: &HostRuntime,
     dir: &mut [Option<Entry>; KEYS],

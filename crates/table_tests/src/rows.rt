@@ -1,6 +1,8 @@
 use base::ShortText;
 use table::Element;
 
+// Rows of the tests' own, and not those of `status`: a table takes any rows with a key.
+
 // A package: its name, and a mark to tell it by.
 #[derive(Clone, Copy)]
 pub struct Record {
