@@ -9,7 +9,7 @@ pub enum Item<'a> {
     End,
 }
 
-// Which item is due.
+// Which item is due. An enum: it is what a reader keeps between its calls, and no step that is handed in.
 #[derive(Clone, Copy)]
 pub enum Stage {
     // the head and the name of a package
