@@ -6,7 +6,8 @@ use crate::shifts::{close_at, open_at, write_at};
 
 // An ordered table over lent memory: the first `len` rows are in use, and their keys rise. The rows behind them are free.
 // Both facts are part of the type, so that no call asks for them. That the room stays is said at each call: it tells what the
-// call leaves alone, which no type can say.
+// call leaves alone, which no type can say. It is no `Lent` of the writer, which grows at its end alone: a table opens and
+// closes places between its rows.
 #[derive(Drop)]
 pub struct Table<'a, E: Element> {
     rows: &'a mut [E],
