@@ -15,7 +15,7 @@ pub struct Text<K: Kind> {
     ghost allowed: { holds K.KIND row.bytes ≡ true },
 }
 
-// By hand, since a derive of `Clone` is refused for a struct with a ghost field.
+// By hand, since a derive of `Clone` is refused for a generic struct with a ghost field.
 impl<K: Kind> Clone for Text<K> {
     ghost is_clone = { λ text copy. copy ≡ text };
 

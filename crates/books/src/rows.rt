@@ -13,10 +13,8 @@ pub(crate) fn put<E: Element>(table: &mut Table<'_, E>, row: E) -> Result<(), Fu
     if table.replace(row).is_some() {
         return Ok(());
     }
-    match table.insert(row) {
-        Ok(_) => Ok(()),
-        Err(_) => Err(Full),
-    }
+    table.insert(row).map_err(|_| Full)?;
+    Ok(())
 }
 
 // Takes the row of a key out of a table, if there is one.

@@ -11,8 +11,8 @@ use crate::parts::Parts;
 use base::{Name, Refusal};
 
 impl Items<'_> {
-    // By recursion, as the definition of the first fault goes: each call is one line of it.
     // The first fault from here on: of the items up to the last one due, and of what stands behind it.
+    // By recursion, as the definition of that fault goes: each call is one line of it.
     fn finish(&self) -> Result<(), Refusal>
         ensures { told result ≡ refusal (due_at self.now.stage) self.now.place (left_from self.now) }
     {

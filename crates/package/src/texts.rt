@@ -6,8 +6,8 @@ use crate::rules::TextRule;
 use crate::word::Word;
 use base::{Reason, Refusal};
 
-// By recursion, as the definition of the first fault goes: each call is one line of it.
 // The place behind a text of `left` bytes that begins, or goes on, at `place`; or the first fault in it.
+// By recursion, as the definition of that fault goes: each call is one line of it.
 pub fn skip_text(
     words: &[u32],
     place: usize,
