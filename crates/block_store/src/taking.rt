@@ -8,6 +8,9 @@ use crate::calls::blocks_for;
 use crate::cells::{Block, Chain};
 use store::keys::{KEYS, LONGEST};
 
+// Looking through an image goes as in the flat store, over other cells: a trait of cells would need its laws said, and share
+// no more than these loops.
+
 fn unmark(blocks: &mut [Block])
     ensures seen { (q : ℕ) → seen_in blocks.new q ≡ false }
     ensures same { Untouched blocks.new blocks.old }

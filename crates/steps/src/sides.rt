@@ -10,6 +10,9 @@ use store::keys::key;
 use store::paths::{carry_side, clear_side, put_side};
 use store::side::Side;
 
+// Kind and path stand apart in these calls: a carried file and an owned path both have the two, each with other things beside,
+// and a type of the two alone would be made at each call.
+
 // The side where a file of this kind is laid.
 fn home_of(kind: FileKind) -> Side
     ensures { result ≡ home kind }
