@@ -2,6 +2,7 @@ pub mod Accepted
 pub mod Checks
 pub mod Files
 pub mod Items
+pub mod Labels
 pub mod Packages
 pub mod Readings
 pub mod Wares

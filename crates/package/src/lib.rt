@@ -5,6 +5,8 @@ mod checks;
 mod files;
 mod gather;
 mod items;
+mod label;
+mod labels;
 mod package;
 mod packages;
 mod parts;
@@ -16,6 +18,8 @@ mod word;
 
 pub use files::{File, Files};
 pub use items::{Item, Items, Stage, Step};
+pub use label::Label;
+pub use labels::read_label;
 pub use package::Package;
 pub use reading::{read_name, read_package};
 pub use rules::TextRule;

@@ -1,0 +1,43 @@
+ghost use Rattle.std.specs.Prelude.{◌≡◌, Some, MatchResult};
+ghost use Rattle.package.specs.Accepted.{package_refusal};
+ghost use Rattle.package.specs.Labels.{Labelling, label_of};
+
+use crate::items::{Items, Stage};
+use crate::label::Label;
+use crate::package::Package;
+use crate::reading::read_package;
+use base::Refusal;
+
+impl Package<'_> {
+    // The package without its words, to be kept when they are changed, moved or let go.
+    pub fn label(&self) -> Label
+        ensures { result ≡ label_of self.now }
+    {
+        Label {
+            name: self.name,
+            version: self.version,
+            first_file: self.first_file,
+        }
+    }
+}
+
+impl Label {
+    // The files of the package, in words that are handed in. The reader checks everything again, so that other words than
+    // those that were read do no harm.
+    pub fn files<'a>(&self, words: &'a [u32]) -> Items<'a>
+        ensures { (result.words.now ≡ words.now) × (result.place ≡ self.now.first_file) × (result.stage ≡ Stage.Files 0 0) }
+    {
+        Items {
+            words,
+            place: self.first_file,
+            stage: Stage::Files { count: 0, floor: 0 },
+        }
+    }
+}
+
+// The label of the package in these words, or their first fault. The words are free again once it is read.
+pub fn read_label(words: &[u32]) -> Result<Label, Refusal>
+    ensures { MatchResult result (λ l. Labelling words.now l) (λ e. package_refusal words.now ≡ Some e) }
+{
+    Ok(read_package(words)?.label())
+}
