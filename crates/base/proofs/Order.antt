@@ -1,5 +1,6 @@
--- The order of texts beside the library's, and of rows against the texts in them.
-use Rattle.std.proofs.Common.{◌≡◌, ℕ, zero, suc, ◌+◌, Bool, true, false, cond, ◌&&◌, ◌||◌, eqb, ltb, List, [], ◌∷◌, ◌++◌, length, replicate, Some, Option, refl, ap, arith}
+-- The order of texts, place by place and beside the library's, and of rows against the texts in them.
+use Rattle.std.proofs.Common.{◌≡◌, ℕ, zero, suc, ◌+◌, ◌<◌, ◌≤◌, Bool, true, false, cond, ◌&&◌, ◌||◌, eqb, ltb, List, [], ◌∷◌, ◌++◌, length, get_or, drop, replicate, Some, Option, refl, ap, ◌∙◌, arith}
+use Rattle.std.proofs.lemmas.List.{drop_more, drop_all}
 use Rattle.std.proofs.lemmas.Bool.{eq-eqb, ne_eqb, le-ltb, ltb-true, and_parts}
 use Rattle.std.specs.declared.cmp.Ordering.{Ordering}
 use Rattle.std.specs.declared.cmp.Ordering.TheVariants.{Less, Equal, Greater}
@@ -21,6 +22,30 @@ before_lt (x ∷ xs) (y ∷ ys) = go (ltb x y) (eqb x y) (before_lt xs ys)
     go true e h = refl
     go false true h = h
     go false false h = refl
+
+-- `before` where both lists go on
+step : (xs ys : List ℕ) (i : ℕ) → i < length xs → i < length ys
+    → before (drop i xs) (drop i ys) ≡ (ltb (get_or xs i 0) (get_or ys i 0) || (eqb (get_or xs i 0) (get_or ys i 0) && before (drop (i + 1) xs) (drop (i + 1) ys)))
+step xs ys i h k = rw (drop_more xs i 0 h, drop_more ys i 0 k) refl
+
+-- the first bytes that differ decide
+pub before_here : (xs ys : List ℕ) (i : ℕ) → i < length xs → i < length ys → (get_or xs i 0 ≡ get_or ys i 0 → ⊥)
+    → before (drop i xs) (drop i ys) ≡ ltb (get_or xs i 0) (get_or ys i 0)
+before_here xs ys i h k ne = step xs ys i h k ∙ rw (ne_eqb (get_or xs i 0) (get_or ys i 0) ne) (or_no (ltb (get_or xs i 0) (get_or ys i 0)))
+  where
+    or_no : (b : Bool) → (b || false) ≡ b
+    or_no true = refl
+    or_no false = refl
+
+-- equal ones leave it to the rest
+pub before_on : (xs ys : List ℕ) (i : ℕ) → i < length xs → i < length ys → get_or xs i 0 ≡ get_or ys i 0
+    → before (drop i xs) (drop i ys) ≡ before (drop (i + 1) xs) (drop (i + 1) ys)
+before_on xs ys i h k e =
+    let lt : ltb (get_or xs i 0) (get_or ys i 0) ≡ false = le-ltb (get_or xs i 0) (get_or ys i 0) (omega arith) in
+    step xs ys i h k ∙ rw (lt, eq-eqb (get_or xs i 0) (get_or ys i 0) e) refl
+
+pub before_end : (xs ys : List ℕ) (i : ℕ) → length xs ≤ i → length ys ≤ i → before (drop i xs) (drop i ys) ≡ false
+before_end xs ys i h k = rw (drop_all i xs h, drop_all i ys k) refl
 
 -- zero bytes behind texts without one leave the order as it is, at one length
 same_not_before : (xs : List ℕ) → before xs xs ≡ false

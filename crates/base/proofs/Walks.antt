@@ -1,8 +1,8 @@
 -- Steps of a walk along a list: what a recursive definition gives from the next place on.
-use Rattle.std.proofs.Common.{◌≡◌, ℕ, suc, ◌+◌, ◌-◌, ◌<◌, ◌≤◌, Bool, true, false, cond, ◌&&◌, eqb, List, [], ◌∷◌, ◌++◌, length, get_or, take, drop, replicate, sym, refl, ap, ◌∙◌, le_of_suc-le-suc, not-suc-le-zero, arith}
+use Rattle.std.proofs.Common.{◌≡◌, ℕ, suc, ◌+◌, ◌-◌, ◌<◌, Bool, true, false, cond, ◌&&◌, eqb, List, [], ◌∷◌, ◌++◌, length, get_or, take, drop, replicate, sym, refl, ap, ◌∙◌}
 use native.Mathlib.Nat.{sub-zero}
 use borrow.Rule.Slice.PartMut.{post_of}
-use Rattle.std.proofs.lemmas.List.{at_drop_more, length-take, drop-replicate}
+use Rattle.std.proofs.lemmas.List.{at_drop_more, drop-replicate}
 use Rattle.base.specs.Texts.{all, spelt, padded, may_begin, may_follow, spelled}
 use Rattle.base.specs.declared.texts.TextKind.{TextKind}
 use Rattle.std.specs.List.{between}

@@ -1,9 +1,11 @@
 // What every layer speaks of: refusals, and the texts of names and versions.
 #![tactic(auto)]
 
+mod equality;
 mod files;
 mod kinds;
 mod laws;
+mod layers;
 mod making;
 mod names;
 mod reasons;

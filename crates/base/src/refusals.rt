@@ -1,5 +1,5 @@
 ghost use Rattle.std.specs.Prelude.{◌≡◌};
-ghost use Rattle.base.specs.Refusals.{number, rank, word_refusal, text_refusal, state_refusal};
+ghost use Rattle.base.specs.Refusals.{number, word_refusal, text_refusal, state_refusal};
 
 use crate::reasons::{Layer, Reason, Refusal};
 
@@ -7,14 +7,6 @@ impl Reason {
     // The number by which manuals and programs name the reason.
     pub fn number(self) -> u8
         ensures { result ≡ number self }
-    {
-        self as u8
-    }
-}
-
-impl Layer {
-    pub fn number(self) -> u8
-        ensures { result ≡ rank self }
     {
         self as u8
     }

@@ -101,10 +101,16 @@ impl ShortText {
         &self.bytes[0..n]
     }
 
-    // Whether this row comes first, by bytes.
+    // Whether this row comes first, by bytes. Written out: the library's order of arrays takes several times as long, and a
+    // table by names asks little else.
     pub fn before(&self, other: &ShortText) -> bool
         ensures { result ≡ before self.now.bytes other.now.bytes }
     {
-        self.bytes < other.bytes
+        for i in 0..16 {
+            if self.bytes[i] != other.bytes[i] {
+                return self.bytes[i] < other.bytes[i];
+            }
+        }
+        false
     }
 }

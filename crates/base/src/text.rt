@@ -7,10 +7,8 @@ use std::alloc::AllocError;
 use std::marker::PhantomData;
 
 // A text that keeps the rule of its kind. Only a constructor that checks the text makes one.
-#[derive_where(PartialEq, Eq)]
 pub struct Text<K: Kind> {
     pub(crate) row: ShortText,
-    #[derive_where(skip)]
     pub(crate) kind: PhantomData<K>,
     ghost allowed: { holds K.KIND row.bytes ≡ true },
 }
