@@ -24,3 +24,8 @@ pub record OneMore {A : Type 0} (x : A) (t t' : Lent A) : Type 0 where
 abbrev pub Adds : {A : Type 0} → Result (Unit {0}) Full → A → Lent A → Lent A → Type 0
 Adds (Ok u) x t t' = OneMore x t t'
 Adds (Err e) x t t' = (space t ≤ t.count) × (t' ≡ t)
+
+-- So many items are in use and each is as it was; or there are not so many, and nothing changed.
+abbrev pub Counts : {A : Type 0} → Result (Unit {0}) Full → ℕ → Lent A → Lent A → Type 0
+Counts (Ok u) n t t' = (n ≤ space t) × (t'.count ≡ n) × (t'.items.now ≡ t.items.now) × (t'.items.ghost_name ≡ t.items.ghost_name)
+Counts (Err e) n t t' = (space t < n) × (t' ≡ t)

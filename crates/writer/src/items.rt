@@ -1,5 +1,5 @@
 ghost use Rattle.std.specs.Prelude.{◌≡◌, ◌+◌, length};
-ghost use Rattle.writer.specs.Items.{items_in, space, Adds};
+ghost use Rattle.writer.specs.Items.{items_in, space, Adds, Counts};
 ghost use Rattle.writer.specs.Pages.{Puts};
 
 use crate::lent::{Full, Lent};
@@ -45,6 +45,17 @@ impl<'a, T: Copy> Lent<'a, T> {
         }
         self.items[used] = item;
         self.count = used + 1;
+        Ok(())
+    }
+
+    // The first `count` items are in use from now on; where there are not so many, nothing changes.
+    pub fn set_count(&mut self, count: usize) -> Result<(), Full>
+        ensures { Counts result count self.old self.new }
+    {
+        if count > self.items.len() {
+            return Err(Full);
+        }
+        self.count = count;
         Ok(())
     }
 
