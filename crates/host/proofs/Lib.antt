@@ -1,3 +1,4 @@
 mod Checks
 mod Lines
+pub mod Notes
 mod Tells

@@ -1,5 +1,6 @@
 ghost use Rattle.std.specs.Prelude.{◌≡◌};
 ghost use Rattle.host.specs.Hosts.{line, argument_row, Asked, Keeps};
+ghost use Rattle.host.specs.Counted.{AskedAt};
 
 use crate::calls::{Argument, Call};
 use crate::hosts::Host;
@@ -47,5 +48,23 @@ pub fn ask<H: Host>(host: &mut H, trace: &mut Trace, call: Call) -> Option<Statu
     let status = host.run(call);
     let line = Line::new(call, status);
     trace.add(line).unwrap();
+    Some(status)
+}
+
+// The same for a trace that is kept as rows and a count of them, which may be any: where no row is behind so many, nothing is
+// run and nothing changes.
+pub fn ask_at<H: Host>(
+    host: &mut H,
+    rows: &mut [Line],
+    used: &mut usize,
+    call: Call,
+) -> Option<Status>
+    ensures asked { AskedAt call result (H.meaning host.old) (H.meaning host.new) rows.old used.old rows.new used.new }
+    ensures kept { Keeps result host.old host.new }
+{
+    let mut trace = Trace::new(rows);
+    trace.set_count(*used).ok()?;
+    let status = ask(host, &mut trace, call)?;
+    *used = trace.count();
     Some(status)
 }

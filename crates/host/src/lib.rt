@@ -1,17 +1,18 @@
 // Script calls, what a script host is, and the trace of what was run.
 #![tactic(auto)]
 
+mod actions;
 mod asking;
 mod calls;
 mod hosts;
 mod laws;
 mod line;
-mod numbers;
 mod rows;
+mod scripts;
 mod trace;
 mod writing;
 
-pub use asking::ask;
+pub use asking::{ask, ask_at};
 pub use calls::{Action, Argument, Call, Script};
 pub use hosts::{Host, works};
 pub use laws::tells_its_call;
