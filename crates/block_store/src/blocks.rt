@@ -27,6 +27,8 @@ pub struct BlockStore<'a> {
 }
 
 impl<'a> Store for BlockStore<'a> {
+    const BLOCK: usize = WIDTH;
+
     ghost block = { 4 };
 
     ghost units = { λ s. units_in s.chains };
@@ -42,7 +44,7 @@ impl<'a> Store for BlockStore<'a> {
     fn block_len() -> usize
         ensures { result ≡ 4 }
     {
-        WIDTH
+        Self::BLOCK
     }
 
     fn put(&mut self, key: usize, words: &[u32]) -> bool {

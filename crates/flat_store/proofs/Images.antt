@@ -8,7 +8,7 @@ use Rattle.std.proofs.lemmas.List.Sums.{sum_by-cons, sum_by-set, get_or-le-sum_b
 use Rattle.std.proofs.lemmas.Bool.{cases_eq, cases_lt, cond-true, lt-ltb, le-ltb, ltb-true, ltb-false, both_ways, false≢true}
 use Rattle.std.proofs.lemmas.Bool.Decides.{nat_tests}
 use Rattle.std.proofs.lemmas.Option.{none-some, same_Some, some_pair_parts, cond_some}
-use Rattle.store.specs.Files.{File, Files, key_count, longest, file_at, units_of, used, admits, moved, words_of}
+use Rattle.store.specs.Files.{File, Files, key_count, longest, file_at, units_of, used, admits, moved, length_of, words_of}
 use Rattle.store.proofs.Facts.{used_set, admits_yes, admits_full, moved_cleared}
 use Rattle.flat_store.specs.Images.{blank, entry_at, words_at, entry_file, image_files, slot_of, live, slot_at, Apart, Fits, units, Kept, choice}
 use Rattle.flat_store.specs.Rooms.{length_file, units_file, used_slots, room_all}
@@ -423,15 +423,19 @@ module _ (dir : List (Option Entry)) (ss : List Slot) (free : ℕ) (kept : Kept 
     file_is : file_at (image_files dir ss) k ≡ Some (take e.len (words_at ss e.slot))
     file_is = file_of dir ss k ∙ ap (entry_file ss) on
 
-    file_length : length (take e.len (words_at ss e.slot)) ≡ e.len
-    file_length = length_file ss e (subst (λ (o : Option Entry). Fits ss o) on (kept.2 k kl))
+    all_there : length (take e.len (words_at ss e.slot)) ≡ e.len
+    all_there = length_file ss e (subst (λ (o : Option Entry). Fits ss o) on (kept.2 k kl))
+
+    -- an entry tells the length of its file
+    pub file_length : Some e.len ≡ length_of (file_at (image_files dir ss) k)
+    file_length = sym (ap length_of file_is ∙ ap Some all_there)
 
     pub part_first : (at : ℕ) → at ≡ 0 → take e.len (words_at ss e.slot) ≡ take 32 (drop (at * 32) (words_of (file_at (image_files dir ss) k)))
     part_first at z =
         let y : at * 32 ≡ 0 = omega arith in
         sym (ap (λ (n : ℕ). take 32 (drop n (words_of (file_at (image_files dir ss) k)))) y
         ∙ ap (λ f. take 32 (words_of f)) file_is
-        ∙ take_all 32 _ (omega (arith, file_length, kept.2 k kl e on)))
+        ∙ take_all 32 _ (omega (arith, all_there, kept.2 k kl e on)))
 
 -- a new image: no key has a slot, and each slot is free
 sum_none : (n : ℕ) → sum_by units (replicate n None) ≡ 0

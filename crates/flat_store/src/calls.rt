@@ -11,9 +11,6 @@ use crate::flat::FlatStore;
 use store::api::Store;
 use store::keys::{KEYS, LONGEST};
 
-// The words of a slot, all in one block.
-const BLOCK: usize = 32;
-
 impl FlatStore<'_> {
     // The slot for a key's words, and how many slots are free then: that of its file, or else the last of the free ones.
     fn choose(&self, key: usize) -> Option<(usize, usize)>
@@ -30,6 +27,9 @@ impl FlatStore<'_> {
 }
 
 impl Store for FlatStore<'_> {
+    // the words of a slot, all in one block
+    const BLOCK: usize = 32;
+
     ghost block = { 32 };
 
     ghost units = { λ s. units_in s };
@@ -45,7 +45,7 @@ impl Store for FlatStore<'_> {
     fn block_len() -> usize
         ensures { result ≡ 32 }
     {
-        BLOCK
+        Self::BLOCK
     }
 
     fn put(&mut self, key: usize, words: &[u32]) -> bool {

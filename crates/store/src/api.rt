@@ -4,6 +4,9 @@ ghost use Rattle.store.specs.Files.{Files, key_count, file_at, used, admits, mov
 // A store of files under keys. What it holds, and how many units it has, is all that its calls speak of.
 pub trait Store {
     // The length of a block, in words.
+    const BLOCK: usize;
+
+    // the same, for clauses
     ghost block: { ℕ };
 
     ghost units: { Self → ℕ };
@@ -17,7 +20,7 @@ pub trait Store {
 
     ghost room: { (s : Self) → used block (files s) ≤ units s };
 
-    // A function, since no impl with a lifetime may yet tie a constant to the name that clauses have for it.
+    // `BLOCK`, tied to the name that clauses have for it: no impl with a lifetime may yet tie the constant itself.
     fn block_len() -> usize
         ensures { result ≡ block };
 
