@@ -65,6 +65,13 @@ row_told kind row text h e = same_row row (row_holding text) (sym (held kind row
 pub naming_row : (words : List ℕ) (n : Name) → Naming words n → n.row ≡ name_row_in words
 naming_row words n naming = row_told name n.row (name_in words) n.allowed naming.named
 
+pub goods_read : (p : Package) → goods_in p.words.now ≡ record { name = p.name.row; version = p.version.row; files = files_of p }
+goods_read p =
+    let en = row_told name p.name.row _ p.name.allowed p.named in
+    let ev = row_told version p.version.row _ p.version.allowed p.versioned in
+    let ef = files_read p in
+    sym (λ i. record { name = en i; version = ev i; files = ef i })
+
 -- paths that rise are no path twice
 above : (p floor : ℕ) (fs : List Carried) → p + 1 ≤ floor → Rising floor fs → Apart p (map stored fs)
 above p floor [] l r = tt

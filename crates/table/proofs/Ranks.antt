@@ -37,6 +37,15 @@ rank_point below keyed k (x ∷ xs) (suc i) l p =
     rw (p.0 0 x (omega arith) (omega arith))
     (ap suc (rank_point below keyed k xs i (le_of_suc-le-suc l) (λ j d a b. p.0 (suc j) d (omega arith) (omega arith), λ j d a b. p.1 (suc j) d (omega arith) (omega arith))))
 
+-- a row that is not below a key stands at its place or behind it
+pub rank_upto : {E K : Type 0} (below : K → K → Bool) (keyed : E → K) (k : K) (xs : List E) (i : ℕ) (x : E)
+    → i < length xs → x ≡ get_or xs i x → below (keyed x) k ≡ false → rank below keyed k xs ≤ i
+rank_upto below keyed k [] i x h e b = absurd (not-suc-le-zero h)
+rank_upto below keyed k (y ∷ ys) zero x h e b = let b' : below (keyed y) k ≡ false = ap (λ z. below (keyed z) k) (sym e) ∙ b in rw b' (omega arith)
+rank_upto below keyed k (y ∷ ys) (suc i) x h e b =
+    let ih = rank_upto below keyed k ys i x (le_of_suc-le-suc h) e b in
+    cond_both (below (keyed y) k) (suc (rank below keyed k ys)) 0 (λ n. n ≤ suc i) (λ _. omega arith) (λ _. omega arith)
+
 pub stands_within : {E K : Type 0} (below : K → K → Bool) (keyed : E → K) (k : K) (xs : List E) (i : ℕ) → Stands below keyed k xs i → i < length xs
 stands_within below keyed k [] i s = absurd s
 stands_within below keyed k (x ∷ xs) zero s = omega arith
@@ -91,6 +100,17 @@ module _ {E K : Type 0} {below : K → K → Bool} {same : K → K → Type 0} (
       → i ≡ rank below keyed k ys
   rank_searched k xs ys i e r l point =
       rank_point below keyed k xs i l (point (rising_parted k xs (ap (rising below keyed) e ∙ r))) ∙ ap (rank below keyed k) e
+
+  -- a row below a key stands before its place
+  pub rank_past : (k : K) (xs : List E) (i : ℕ) (x : E) → i < length xs → x ≡ get_or xs i x → rising below keyed xs ≡ true
+      → below (keyed x) k ≡ true → i < rank below keyed k xs
+  rank_past k [] i x h e r b = absurd (not-suc-le-zero h)
+  rank_past k (y ∷ ys) zero x h e r b = let b' : below (keyed y) k ≡ true = ap (λ z. below (keyed z) k) (sym e) ∙ b in rw b' (omega arith)
+  rank_past k (y ∷ ys) (suc i) x h e r b =
+      let p = rising_parts below keyed y ys r in
+      let b' = total.trans (keyed y) (keyed x) k (under_read (keyed y) ys i x (le_of_suc-le-suc h) e p.0) b in
+      let ih = rank_past k ys i x (le_of_suc-le-suc h) e p.1 b in
+      rw b' (omega arith)
 
   -- at its place the key stands, if the row there is not above it
   pub rank_found : (k : K) (xs : List E) (i : ℕ) (x : E) → i ≡ rank below keyed k xs → i < length xs
