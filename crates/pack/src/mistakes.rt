@@ -2,7 +2,7 @@ use std::alloc::AllocError;
 use thiserror::Error;
 
 // What is wrong with a line of a description.
-#[derive(Debug, Drop, Error)]
+#[derive(Clone, Copy, Debug, Error)]
 pub enum Mistake {
     #[error("a line begins with package, plain, conffile, end or #")]
     UnknownWord,

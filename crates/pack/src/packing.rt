@@ -9,7 +9,7 @@ use thiserror::Error;
 use wordfile::Told;
 
 // Why no package was made.
-#[derive(Debug, Drop, Error)]
+#[derive(Clone, Copy, Debug, Error)]
 pub enum Fault {
     // a line of the description, counted from 1
     #[error("line {0}: {1}")]
@@ -66,12 +66,15 @@ fn parse(heap: Global, text: &str) -> Result<Description, Fault> {
         files: Vec::new(heap),
         ended: false,
     };
+    // the number of the line behind those read so far
+    let mut behind = 1usize;
     for (i, line) in text.lines().enumerate() {
+        let number = i.saturating_add(1);
         draft
             .add_text(heap, line)
-            .map_err(|mistake| Fault::InLine(i.saturating_add(1), mistake))?;
+            .map_err(|mistake| Fault::InLine(number, mistake))?;
+        behind = number.saturating_add(1);
     }
-    let behind = text.lines().count().saturating_add(1);
     draft
         .finish()
         .map_err(|mistake| Fault::InLine(behind, mistake))
