@@ -1,3 +1,4 @@
+pub mod Bearing
 pub mod Few
 pub mod Fields
 pub mod Gathers

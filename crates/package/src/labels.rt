@@ -1,6 +1,6 @@
-ghost use Rattle.std.specs.Prelude.{◌≡◌, Some, MatchResult};
+ghost use Rattle.std.specs.Prelude.{◌≡◌, Some, MatchOption, MatchResult};
 ghost use Rattle.package.specs.Accepted.{package_refusal};
-ghost use Rattle.package.specs.Labels.{Labelling, label_of};
+ghost use Rattle.package.specs.Labels.{Bears, Labelling, label_of};
 
 use crate::items::{Items, Stage};
 use crate::label::Label;
@@ -31,6 +31,17 @@ impl Label {
             words,
             place: self.first_file,
             stage: Stage::Files { count: 0, floor: 0 },
+        }
+    }
+
+    // The package again, if the words that are handed in bear its name and version. They are read anew, so that words with
+    // a fault, or of another package, are not taken for its own.
+    pub fn package<'a>(&self, words: &'a [u32]) -> Option<Package<'a>>
+        ensures { MatchOption result (Bears words.now self.now → ⊥) (λ p. Bears words.now self.now × (p.words.now ≡ words.now) × (p.name ≡ self.now.name) × (p.version ≡ self.now.version)) }
+    {
+        match read_package(words) {
+            Ok(new) if new.name == self.name && new.version == self.version => Some(new),
+            _ => None,
         }
     }
 }
