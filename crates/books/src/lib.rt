@@ -4,6 +4,7 @@
 mod books;
 mod changes;
 mod disowning;
+mod labelled;
 mod lookups;
 mod owning;
 mod rows;

@@ -14,6 +14,8 @@ use Rattle.package.specs.Checks.{item, nothing, contents, refusal}
 use Rattle.package.specs.Packages.{Carried, Rising, text_words, text_in, behind_text, files_in, package_in, name_in}
 use Rattle.package.specs.Accepted.{package_refusal}
 use Rattle.package.specs.Files.{files_of}
+use Rattle.package.specs.declared.label.Label.{Label}
+use Rattle.package.specs.Labels.{Labelling, files_by}
 use Rattle.package.specs.Readings.{Naming}
 use Rattle.package.proofs.Tests.{refusal_none}
 use Rattle.encoding.proofs.Decodes.{content_decodes}
@@ -57,6 +59,12 @@ files_read p =
     let reading = reading_of p in
     let ws = drop p.first_file p.words.now in
     files_stored (length ws) ws 0 0 p.first_file (le_refl (length ws)) reading.sound ∙ ap (map stored) reading.filed
+
+-- of words and the label that was read from them, the same
+pub labelled_files : (words : List ℕ) (l : Label) → Labelling words l → files_by l words ≡ (goods_in words).files
+labelled_files words l h =
+    let ws = drop l.first_file words in
+    files_stored (length ws) ws 0 0 l.first_file (le_refl (length ws)) h.sound ∙ ap (map stored) h.filed
 
 -- a row is told by its text
 row_told : (kind : TextKind) (row : ShortText) (text : List ℕ) → holds kind row.bytes ≡ true → spelt row.bytes ≡ text → row ≡ row_holding text

@@ -3,6 +3,7 @@
 
 mod carrying;
 mod files;
+mod labelled;
 mod owning;
 mod pass;
 mod path_set;
@@ -13,6 +14,7 @@ mod tokens;
 
 pub use carrying::carried_paths;
 pub use files::Laid;
+pub use labelled::{labelled_paths, lay_labelled};
 pub use owning::{pass_owned, same_name};
 pub use pass::{Pass, Unwind};
 pub use path_set::PathSet;
