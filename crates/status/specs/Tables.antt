@@ -1,5 +1,5 @@
 -- Which tables of records and owned paths are well-formed.
-use Rattle.std.specs.Prelude.{◌≡◌, ℕ, true, List, is_some, Some, None, Option, nat_lt}
+use Rattle.std.specs.Prelude.{◌≡◌, ℕ, true, List, Some, None, Option, nat_lt}
 use Rattle.std.specs.List.{AllByRecursion}
 use Rattle.base.specs.declared.texts.ShortText.{ShortText}
 use Rattle.base.specs.declared.files.FileKind.{FileKind}
@@ -22,7 +22,7 @@ owner_of path owners = lookup nat_lt (λ o. o.path) path owners
 -- what a package may own: nothing without a record or a version, and in Config-Files no plain path
 abbrev pub MayOwn : Option Record → FileKind → Type 0
 MayOwn None kind = ⊥
-MayOwn (Some r) kind = (is_some r.version ≡ true) × (r.state ≡ ConfigFiles → kind ≡ Conffile)
+MayOwn (Some r) kind = (r.version.there ≡ true) × (r.state ≡ ConfigFiles → kind ≡ Conffile)
 
 -- well-formed tables
 pub record Kept (records : List Record) (owners : List Owned) : Type 0 where

@@ -6,5 +6,4 @@ mod noted;
 mod rows;
 
 pub use laws::empty_tables;
-pub use noted::{note_version, noted_version};
-pub use rows::{Flag, Owned, Record, State};
+pub use rows::{Flag, Noted, Owned, Record, State};

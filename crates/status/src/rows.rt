@@ -24,16 +24,24 @@ pub enum State {
     Installed,
 }
 
+// A version, or none: then the text is all zero, so that equal values are equal rows. It is plain data, like the name: nothing
+// here says that the text is a version, or that it is zero. An `Option` has no text where there is no version: it would be a
+// narrower type, and ask more of who makes a record.
+#[derive(Clone, Copy)]
+pub struct Noted {
+    pub there: bool,
+    pub text: ShortText,
+}
+
 // What is recorded of a package. Rows are plain data; `Sound` of specs/Rows.antt says which of them are records.
 #[derive(Clone, Copy)]
 pub struct Record {
     pub name: ShortText,
     pub flag: Flag,
     pub state: State,
-    // plain data, like the name: nothing here says that the text is a version
-    pub version: Option<ShortText>,
+    pub version: Noted,
     // the version that was configured last
-    pub configured: Option<ShortText>,
+    pub configured: Noted,
 }
 
 impl Element for Record {
