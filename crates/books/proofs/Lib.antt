@@ -1,5 +1,4 @@
 pub mod Disowns
-pub mod Notes
 pub mod Ownings
 pub mod Removals
 pub mod Surveys

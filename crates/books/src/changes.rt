@@ -1,11 +1,11 @@
-ghost use Rattle.std.specs.Prelude.{◌≡◌, [], is_ok};
+ghost use Rattle.std.specs.Prelude.{◌≡◌, []};
 ghost use Rattle.books.specs.Ledger.{ledger};
 ghost use Rattle.books.specs.Changes.{NotedLine, Wrote, Struck, Owns};
 
 use crate::books::Books;
 use crate::rows::{put, take_out};
 use base::ShortText;
-use host::{Full, Line};
+use host::Line;
 use status::{Owned, Record};
 
 impl<'a> Books<'a> {
@@ -21,18 +21,19 @@ impl<'a> Books<'a> {
         self.trace.clear();
     }
 
-    // One line more, if the trace has room for it.
-    pub fn note(&mut self, line: Line) -> Result<(), Full>
-        ensures { NotedLine line (ledger self.old) (is_ok result) (ledger self.new) }
+    // One line more; false where the trace is full. The answer is a `bool`, here and of `write` and `own`, for a caller may let it
+    // lie: a `Result` must be looked at.
+    pub fn note(&mut self, line: Line) -> bool
+        ensures { NotedLine line (ledger self.old) result (ledger self.new) }
     {
-        self.trace.add(line)
+        self.trace.add(line).is_ok()
     }
 
-    // The record of its name is this one from now on; refused where no record has the name and none can come in.
-    pub fn write(&mut self, row: Record) -> Result<(), Full>
-        ensures { Wrote row (ledger self.old) (is_ok result) (ledger self.new) }
+    // The record of its name is this one from now on; false where no record has the name and none can come in.
+    pub fn write(&mut self, row: Record) -> bool
+        ensures { Wrote row (ledger self.old) result (ledger self.new) }
     {
-        put(&mut self.records, row)
+        put(&mut self.records, row).is_ok()
     }
 
     // No record has this name from now on.
@@ -42,10 +43,10 @@ impl<'a> Books<'a> {
         take_out(&mut self.records, name);
     }
 
-    // The path is owned so from now on; refused where it has no owner and the table is full.
-    pub fn own(&mut self, row: Owned) -> Result<(), Full>
-        ensures { Owns row (ledger self.old) (is_ok result) (ledger self.new) }
+    // The path is owned so from now on; false where it has no owner and the table is full.
+    pub fn own(&mut self, row: Owned) -> bool
+        ensures { Owns row (ledger self.old) result (ledger self.new) }
     {
-        put(&mut self.owners, row)
+        put(&mut self.owners, row).is_ok()
     }
 }
