@@ -1,4 +1,4 @@
-ghost use Rattle.std.specs.Prelude.{◌≡◌, ℕ, ◌+◌, ◌<◌, ◌≤◌, length, replicate, None, MatchOption};
+ghost use Rattle.std.specs.Prelude.{◌≡◌, ℕ, ◌+◌, ◌<◌, ◌≤◌, length, replicate, set, None, MatchOption};
 ghost use Rattle.std.proofs.Common.{lit≤};
 ghost use Rattle.std.proofs.Props.{props};
 ghost use Rattle.store.specs.Files.{key_count, used};
@@ -103,17 +103,17 @@ fn link_all(blocks: &mut [Block])
     }
 }
 
-// No key has a chain, and all blocks are free.
-fn empty(dir: &mut [Chain; CHAINS], blocks: &mut [Block])
-    ensures kept { Kept dir.new blocks.new }
-    ensures files { chain_files dir.new blocks.new ≡ replicate key_count None }
+// Empties every chain, and answers the chain of all blocks in their order, which the caller makes the free one.
+fn empty(dir: &mut [Chain; CHAINS], blocks: &mut [Block]) -> Chain
+    ensures kept { Kept (set dir.new key_count result) blocks.new }
+    ensures files { chain_files (set dir.new key_count result) blocks.new ≡ replicate key_count None }
 {
     dir.fill(Chain::EMPTY);
     link_all(blocks);
-    dir[FREE] = Chain {
+    Chain {
         blocks: blocks.len(),
         ..Chain::EMPTY
-    };
+    }
 }
 
 // Chains the free blocks of a whole image; a damaged one is emptied first.
@@ -123,7 +123,7 @@ fn settle(dir: &mut [Chain; CHAINS], blocks: &mut [Block])
     ensures damaged { (k : ℕ) → Damaged dir.old blocks.old k → chain_files dir.new blocks.new ≡ replicate key_count None }
 {
     match look_through(dir, blocks) {
-        Some(_) => empty(dir, blocks),
+        Some(_) => dir[FREE] = empty(dir, blocks),
         None => dir[FREE] = chain_free(blocks),
     }
 }
@@ -134,7 +134,7 @@ impl<'a> BlockStore<'a> {
         ensures files { files_in result.chains ≡ replicate key_count None }
         ensures units { units_in result.chains ≡ length blocks.old }
     {
-        empty(dir, blocks);
+        dir[FREE] = empty(dir, blocks);
         BlockStore {
             chains: Chains { dir, blocks },
         }
