@@ -1,12 +1,13 @@
 -- Slots of which only the `spare` is written.
-use Rattle.std.proofs.Common.{◌≡◌, ℕ, suc, ◌+◌, ◌-◌, ◌<◌, ◌≤◌, Bool, true, false, cond, ◌&&◌, eqb, ltb, leb, List, [], ◌∷◌, length, get_or, take, set, Option, Some, None, sum_by, count_by, sym, refl, ap, ◌∙◌, subst, inl, inr, arith}
+use Rattle.std.proofs.Common.{◌≡◌, ℕ, suc, ◌+◌, ◌-◌, ◌<◌, ◌≤◌, Bool, true, false, cond, ◌&&◌, eqb, ltb, leb, List, [], ◌∷◌, length, get_or, take, set, Option, Some, sum_by, count_by, sym, refl, ap, ◌∙◌, subst, inl, inr, arith}
 use Rattle.std.proofs.lemmas.List.{get_or-set_same, get_or-set_other, set_past, get_or-take, length-take, length-set, take_all}
 use Rattle.std.proofs.lemmas.List.Sums.{sum_by-cons, sum_by-set, sum_by_more, get_or-le-sum_by}
 use Rattle.std.proofs.lemmas.Bool.{cases_eq, cases_lt, cases_order, eqb-true, eq-eqb, ne_eqb, ltb-true, and_parts}
 use Rattle.store.specs.Files.{key_count, longest}
-use Rattle.flat_store.specs.Images.{blank, entry_at, words_at, slot_of, live, slot_at, Fits, units, Kept}
+use Rattle.flat_store.specs.Images.{none, blank, extent_of, extent_at, words_at, slot_of, live, slot_at, Fits, extent_units, units, Kept}
 use Rattle.flat_store.specs.Taking.{names, named, good_after, good, markable, marked, unnamed, Marks, Free}
 use Rattle.flat_store.specs.declared.cells.Entry.{Entry}
+use Rattle.flat_store.specs.declared.cells.Extent.{Extent}
 use Rattle.flat_store.specs.declared.cells.Slot.{Slot}
 use Rattle.flat_store.proofs.Images.{fits_same}
 use Rattle.flat_store.proofs.Places.{some_of, live_key, live_free, slot_key, slot_free}
@@ -28,8 +29,8 @@ module _ (ss : List Slot) (i : ℕ) (s : Slot) where
         | inr a ↦ ap (λ x. x.words) (get_or-set_other ss i p s blank a)
       ]
 
-abbrev once : (Option Entry → Bool) → Option Entry → ℕ
-once t e = cond (t e) 1 0
+abbrev once : ℕ → Entry → ℕ
+once p e = cond (names p (extent_of e)) 1 0
 
 abbrev lack : Slot → ℕ
 lack s = cond (unnamed s) 1 0
@@ -40,26 +41,26 @@ all_lack [] h = refl
 all_lack (s ∷ ss) h =
     sum_by-cons lack s ss ∙ omega (arith, ap (λ (n : ℕ). cond {A = ℕ} (eqb n 0) 1 0) (h 0 (omega arith)), all_lack ss (λ p l. h (suc p) (omega arith)))
 
-pub no_marks : (dir : List (Option Entry)) (ss : List Slot) → ((p : ℕ) → p < length ss → (get_or ss p blank).spare ≡ 0) → Marks dir ss 0
+pub no_marks : (dir : List Entry) (ss : List Slot) → ((p : ℕ) → p < length ss → (get_or ss p blank).spare ≡ 0) → Marks dir ss 0
 no_marks dir ss h = (h, omega (arith, all_lack ss h), (λ j l. absurd (omega arith)), λ j l. absurd (omega arith))
 
 -- an entry before k that names p is counted
-named_some : (dir : List (Option Entry)) (k j p : ℕ) (e : Entry) → j < k → k ≤ length dir → entry_at dir j ≡ Some e → e.slot ≡ p → 1 ≤ named p (take k dir)
+named_some : (dir : List Entry) (k j p : ℕ) (e : Extent) → j < k → k ≤ length dir → extent_at dir j ≡ Some e → e.slot ≡ p → 1 ≤ named p (take k dir)
 named_some dir k j p e jl kl on q =
-    let t : names p (entry_at dir j) ≡ true = ap (names p) on ∙ eq-eqb _ _ q in
-    omega (arith, get_or-le-sum_by (once (names p)) (take k dir) j None (omega (arith, length-take k dir)), ap (once (names p)) (get_or-take k dir j None jl), ap (λ (b : Bool). cond {A = ℕ} b 1 0) t)
+    let t : names p (extent_at dir j) ≡ true = ap (names p) on ∙ eq-eqb _ _ q in
+    omega (arith, get_or-le-sum_by (once p) (take k dir) j none (omega (arith, length-take k dir)), ap (once p) (get_or-take k dir j none jl), ap (λ (b : Bool). cond {A = ℕ} b 1 0) t)
 
-module _ (dir : List (Option Entry)) (ss : List Slot) (k : ℕ) (long : length dir ≡ key_count) (kl : k < key_count) (marks : Marks dir ss k) where
-  named_more : (p : ℕ) → named p (take (k + 1) dir) ≡ named p (take k dir) + cond (names p (entry_at dir k)) 1 0
-  named_more p = sum_by_more (once (names p)) dir k None (omega arith)
+module _ (dir : List Entry) (ss : List Slot) (k : ℕ) (long : length dir ≡ key_count) (kl : k < key_count) (marks : Marks dir ss k) where
+  named_more : (p : ℕ) → named p (take (k + 1) dir) ≡ named p (take k dir) + cond (names p (extent_at dir k)) 1 0
+  named_more p = sum_by_more (once p) dir k none (omega arith)
 
-  units_more : sum_by units (take (k + 1) dir) ≡ sum_by units (take k dir) + units (entry_at dir k)
-  units_more = sum_by_more units dir k None (omega arith)
+  units_more : sum_by units (take (k + 1) dir) ≡ sum_by units (take k dir) + extent_units (extent_at dir k)
+  units_more = sum_by_more units dir k none (omega arith)
 
   below : (P : ℕ → Type 0) → ((j : ℕ) → j < k → P j) → P k → (j : ℕ) → j < k + 1 → P j
   below P h here j l = elim (cases_eq j k) [ inl q ↦ subst P (sym q) here | inr a ↦ h j (omega arith) ]
 
-  module _ (e : Entry) (on : entry_at dir k ≡ Some e) where
+  module _ (e : Extent) (on : extent_at dir k ≡ Some e) where
     -- what can be marked is good, and the other way round
     good_is : good dir (length ss) k ≡ markable ss e
     good_is = ap (good_after (take k dir) (length ss)) on ∙ go (ltb e.slot (length ss)) refl
@@ -92,19 +93,19 @@ module _ (dir : List (Option Entry)) (ss : List Slot) (k : ℕ) (long : length d
       marks_at p h =
           elim (cases_eq p e.slot) [
             | inl q ↦ (
-                let t : names p (entry_at dir k) ≡ true = ap (names p) on ∙ eq-eqb _ _ (sym q) in
+                let t : names p (extent_at dir k) ≡ true = ap (names p) on ∙ eq-eqb _ _ (sym q) in
                 ap (λ (x : ℕ). (get_or mss x blank).spare) q ∙ spare_here ss e.slot _ in_range
                 ∙ omega (arith, named_more p, marks.0 p h, ap (λ (b : Bool). cond {A = ℕ} b 1 0) t, ap (λ (x : ℕ). (get_or ss x blank).spare) q, was))
             | inr a ↦ (
-                let t : names p (entry_at dir k) ≡ false = ap (names p) on ∙ ne_eqb _ _ (λ q. a (sym q)) in
+                let t : names p (extent_at dir k) ≡ false = ap (names p) on ∙ ne_eqb _ _ (λ q. a (sym q)) in
                 spare_other ss e.slot _ p a ∙ marks.0 p h ∙ omega (arith, named_more p, ap (λ (b : Bool). cond {A = ℕ} b 1 0) t))
           ]
 
       more_marks : Marks dir mss (k + 1)
       more_marks = (
         (λ p h. marks_at p (omega (arith, marked_long))),
-        omega (arith, marks.1, units_more, marked_long, ap units on, sum_by-set lack ss e.slot (record { spare = 1; words = words_at ss e.slot }) blank in_range, ap (λ (n : ℕ). cond {A = ℕ} (eqb n 0) 1 0) was),
-        (λ j l. fits_same ss mss marked_words (entry_at dir j) (below (λ (i : ℕ). Fits ss (entry_at dir i)) marks.2 (subst (λ (o : Option Entry). Fits ss o) (sym on) fits) j l)),
+        omega (arith, marks.1, units_more, marked_long, ap extent_units on, sum_by-set lack ss e.slot (record { spare = 1; words = words_at ss e.slot }) blank in_range, ap (λ (n : ℕ). cond {A = ℕ} (eqb n 0) 1 0) was),
+        (λ j l. fits_same ss mss marked_words (extent_at dir j) (below (λ (i : ℕ). Fits ss (extent_at dir i)) marks.2 (subst (λ (o : Option Extent). Fits ss o) (sym on) fits) j l)),
         (λ j l. ap (λ (n : ℕ). good dir n j) marked_long ∙ below (λ (i : ℕ). good dir (length ss) i ≡ true) marks.3 (good_is ∙ sym ok) j l),
       )
 
@@ -164,23 +165,23 @@ module _ (old ss : List Slot) (p free : ℕ) (long : length ss ≡ length old) (
     )
 
 -- A whole image with its free slots listed is sound.
-module _ (dir : List (Option Entry)) (ss old : List Slot) (free : ℕ) (long : length dir ≡ key_count) (same : length ss ≡ length old) (marks : Marks dir old key_count)
+module _ (dir : List Entry) (ss old : List Slot) (free : ℕ) (long : length dir ≡ key_count) (same : length ss ≡ length old) (marks : Marks dir old key_count)
     (count : free ≡ count_by unnamed old) (free_at : (i : ℕ) → i < free → Free old (get_or ss i blank).spare)
     (rising : (i j : ℕ) → i < j → j < free → (get_or ss i blank).spare < (get_or ss j blank).spare) (words : (p : ℕ) → words_at ss p ≡ words_at old p) where
   all : take key_count dir ≡ dir
   all = take_all key_count dir (omega arith)
 
   -- what a good entry says
-  fine : (k : ℕ) (e : Entry) → k < key_count → entry_at dir k ≡ Some e → (e.slot < length old) × (named e.slot (take k dir) ≡ 0)
+  fine : (k : ℕ) (e : Extent) → k < key_count → extent_at dir k ≡ Some e → (e.slot < length old) × (named e.slot (take k dir) ≡ 0)
   fine k e kl on =
       let a : good_after (take k dir) (length old) (Some e) ≡ true = sym (ap (good_after (take k dir) (length old)) on) ∙ marks.3 k kl in
       let b = and_parts _ _ (and_parts (leb e.len longest) _ a).1 in
       (ltb-true _ _ b.0, eqb-true _ _ b.1)
 
-  two_keys : (j k : ℕ) (e f : Entry) → j < k → k < key_count → entry_at dir j ≡ Some e → entry_at dir k ≡ Some f → e.slot ≡ f.slot → ⊥
+  two_keys : (j k : ℕ) (e f : Extent) → j < k → k < key_count → extent_at dir j ≡ Some e → extent_at dir k ≡ Some f → e.slot ≡ f.slot → ⊥
   two_keys j k e f l kl on on' q = let h = named_some dir k j f.slot e l (omega arith) on q in let z = (fine k f kl on').1 in omega arith
 
-  key_free : (k i : ℕ) (e : Entry) → k < key_count → i < free → entry_at dir k ≡ Some e → e.slot ≡ (get_or ss i blank).spare → ⊥
+  key_free : (k i : ℕ) (e : Extent) → k < key_count → i < free → extent_at dir k ≡ Some e → e.slot ≡ (get_or ss i blank).spare → ⊥
   key_free k i e kl il on q =
       let f = free_at i il in
       let h = named_some dir key_count k (get_or ss i blank).spare e kl (omega arith) on q in
@@ -195,8 +196,8 @@ module _ (dir : List (Option Entry)) (ss old : List Slot) (free : ℕ) (long : l
       ]
 
   -- a live place is a key's, and has an entry, or one of the free list's
-  key_on : (x : ℕ) → x < key_count → live dir free x ≡ true → (e : Entry) × (entry_at dir x ≡ Some e) × (slot_at dir ss x ≡ e.slot)
-  key_on x h on = let s = some_of (entry_at dir x) (sym (live_key dir ss free x h) ∙ on) in (s.0, s.1, slot_key dir ss free x h ∙ ap slot_of s.1)
+  key_on : (x : ℕ) → x < key_count → live dir free x ≡ true → (e : Extent) × (extent_at dir x ≡ Some e) × (slot_at dir ss x ≡ e.slot)
+  key_on x h on = let s = some_of (extent_at dir x) (sym (live_key dir ss free x h) ∙ on) in (s.0, s.1, slot_key dir ss free x h ∙ ap slot_of s.1)
 
   free_on : (x : ℕ) → key_count ≤ x → live dir free x ≡ true → x - key_count < free
   free_on x h on = ltb-true _ _ (sym (live_free dir ss free x h) ∙ on)
@@ -235,6 +236,6 @@ module _ (dir : List (Option Entry)) (ss old : List Slot) (free : ℕ) (long : l
   taken_kept = (
     long,
     omega (arith, marks.1, ap (sum_by units) all),
-    (λ k kl. fits_same old ss words (entry_at dir k) (marks.2 k kl)),
+    (λ k kl. fits_same old ss words (extent_at dir k) (marks.2 k kl)),
     (inside, apart),
   )

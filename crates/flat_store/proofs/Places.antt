@@ -2,23 +2,24 @@
 use Rattle.std.proofs.Common.{◌≡◌, ℕ, ◌-◌, ◌<◌, ◌≤◌, Bool, true, false, ltb, ◌⊎◌, List, get_or, Option, Some, None, is_some, sym, refl, ap, ◌∙◌, subst, inl, inr, arith}
 use Rattle.std.proofs.lemmas.Bool.{cases_eq, cond-true, cond-false, lt-ltb, le-ltb, both_ways, false≢true}
 use Rattle.store.specs.Files.{key_count}
-use Rattle.flat_store.specs.Images.{blank, entry_at, slot_of, live, slot_at, Apart}
+use Rattle.flat_store.specs.Images.{blank, extent_at, slot_of, live, slot_at, Apart}
 use Rattle.flat_store.specs.declared.cells.Entry.{Entry}
+use Rattle.flat_store.specs.declared.cells.Extent.{Extent}
 use Rattle.flat_store.specs.declared.cells.Slot.{Slot}
 
 -- what is there
-pub some_of : (o : Option Entry) → is_some o ≡ true → (e : Entry) × (o ≡ Some e)
+pub some_of : (o : Option Extent) → is_some o ≡ true → (e : Extent) × (o ≡ Some e)
 some_of None h = absurd (false≢true h)
 some_of (Some e) h = (e, refl)
 
-module _ (dir : List (Option Entry)) (ss : List Slot) (free : ℕ) where
-  pub live_key : (k : ℕ) → k < key_count → live dir free k ≡ is_some (entry_at dir k)
+module _ (dir : List Entry) (ss : List Slot) (free : ℕ) where
+  pub live_key : (k : ℕ) → k < key_count → live dir free k ≡ is_some (extent_at dir k)
   live_key k h = cond-true _ _ _ (lt-ltb k key_count h)
 
   pub live_free : (x : ℕ) → key_count ≤ x → live dir free x ≡ ltb (x - key_count) free
   live_free x h = cond-false _ _ _ (le-ltb x key_count h)
 
-  pub slot_key : (k : ℕ) → k < key_count → slot_at dir ss k ≡ slot_of (entry_at dir k)
+  pub slot_key : (k : ℕ) → k < key_count → slot_at dir ss k ≡ slot_of (extent_at dir k)
   slot_key k h = cond-true _ _ _ (lt-ltb k key_count h)
 
   pub slot_free : (x : ℕ) → key_count ≤ x → slot_at dir ss x ≡ (get_or ss (x - key_count) blank).spare

@@ -2,7 +2,7 @@ ghost use Rattle.std.specs.Prelude.{◌≡◌, ◌<◌, length, IfSome};
 ghost use Rattle.std.proofs.Common.{lit≤, ◌∙◌};
 ghost use Rattle.std.proofs.lemmas.List.{length-map};
 ghost use Rattle.store.specs.Files.{key_count};
-ghost use Rattle.flat_store.specs.Images.{choice, entry_at, entry_file};
+ghost use Rattle.flat_store.specs.Images.{choice, extent_at, entry_file};
 ghost use Rattle.flat_store.specs.Rooms.{room_all};
 ghost use Rattle.flat_store.specs.Stores.{files_in, units_in};
 
@@ -15,11 +15,11 @@ impl FlatStore<'_> {
     // The slot for a key's words, and how many slots are free then: that of its file, or else the last of the free ones.
     fn choose(&self, key: usize) -> Option<(usize, usize)>
         requires { key < key_count }
-        ensures is { result ≡ choice self.now.slots.now self.now.free (entry_at self.now.dir.now key) }
+        ensures is { result ≡ choice self.now.slots.now self.now.free (extent_at self.now.dir.now key) }
         ensures inside { IfSome result (λ q. q.0 < length self.now.slots.now) }
     {
-        if let Some(entry) = self.dir[key] {
-            return Some((entry.slot, self.free));
+        if let Some(extent) = self.dir[key].extent() {
+            return Some((extent.slot, self.free));
         }
         let left = self.free.checked_sub(1)?;
         Some((self.slots[left].spare, left))
@@ -60,7 +60,11 @@ impl Store for FlatStore<'_> {
         let len = words.len();
         let room = &mut slots[slot];
         room.words[..len].copy_from_slice(words);
-        dir[key] = Some(Entry { slot, len });
+        dir[key] = Entry {
+            held: true,
+            slot,
+            len,
+        };
         self.free = free;
         true
     }
@@ -71,11 +75,12 @@ impl Store for FlatStore<'_> {
         }
         let dir = &mut *self.dir;
         let slots = &mut *self.slots;
-        let Some(entry) = dir[key].take() else {
+        let Some(extent) = dir[key].extent() else {
             return;
         };
+        dir[key] = Entry::EMPTY;
         // Its slot is free again.
-        slots[self.free].spare = entry.slot;
+        slots[self.free].spare = extent.slot;
         self.free += 1;
     }
 
@@ -84,18 +89,20 @@ impl Store for FlatStore<'_> {
             return;
         }
         self.clear(to);
-        self.dir.swap(to, from);
+        let dir = &mut *self.dir;
+        dir[to] = dir[from];
+        dir[from] = Entry::EMPTY;
     }
 
     fn length(&self, key: usize) -> Option<usize> {
-        let entry = (*self.dir.get(key)?)?;
-        Some(entry.len)
+        let extent = self.dir.get(key)?.extent()?;
+        Some(extent.len)
     }
 
     fn part(&self, key: usize, at: usize) -> &[u32] {
         let slots = &*self.slots;
-        match self.dir.get(key) {
-            Some(Some(entry)) if at == 0 => &slots[entry.slot].words[..entry.len],
+        match self.dir.get(key).copied().and_then(Entry::extent) {
+            Some(extent) if at == 0 => &slots[extent.slot].words[..extent.len],
             _ => &[],
         }
     }

@@ -1,8 +1,20 @@
-// What a caller lends to a flat image: an entry for each key that holds a file, and slots.
+// What a caller lends to a flat image: an entry for each key, and slots.
 
-// Where a key's file lies, and how many words it has.
+ghost use Rattle.std.specs.Prelude.{◌≡◌};
+ghost use Rattle.flat_store.specs.Images.{extent_of};
+
+// Whether a key has a file, in which slot that lies, and how many words it has. The memory is the caller's, so an entry that
+// is not held may have any numbers: they are read through `extent` alone, which looks at `held` first.
 #[derive(Clone, Copy)]
 pub struct Entry {
+    pub held: bool,
+    pub slot: usize,
+    pub len: usize,
+}
+
+// The words of a file: so many from the start of a slot.
+#[derive(Clone, Copy)]
+pub(crate) struct Extent {
     pub slot: usize,
     pub len: usize,
 }
@@ -13,6 +25,24 @@ pub struct Entry {
 pub struct Slot {
     pub spare: usize,
     pub words: [u32; 32],
+}
+
+impl Entry {
+    pub const EMPTY: Entry = Entry {
+        held: false,
+        slot: 0,
+        len: 0,
+    };
+
+    // Where the file of the entry lies, if it holds one.
+    pub(crate) fn extent(self) -> Option<Extent>
+        ensures { result ≡ extent_of self }
+    {
+        self.held.then_some(Extent {
+            slot: self.slot,
+            len: self.len,
+        })
+    }
 }
 
 impl Slot {

@@ -10,11 +10,11 @@ use crate::taking::{list_free, look_through};
 use store::keys::KEYS;
 
 // No key has a file, and each slot is free. Answers how many they are.
-fn wipe(dir: &mut [Option<Entry>; KEYS], slots: &mut [Slot]) -> usize
+fn wipe(dir: &mut [Entry; KEYS], slots: &mut [Slot]) -> usize
     ensures sound { Kept dir.new slots.new result }
     ensures files { image_files dir.new slots.new ≡ replicate key_count None }
 {
-    dir.fill(None);
+    dir.fill(Entry::EMPTY);
     for (i, slot) in slots.iter_mut().enumerate() {
         slot.spare = i;
     }
@@ -22,7 +22,7 @@ fn wipe(dir: &mut [Option<Entry>; KEYS], slots: &mut [Slot]) -> usize
 }
 
 // Lists the free slots of a whole image; a damaged one is emptied first. Answers how many they are.
-fn settle(dir: &mut [Option<Entry>; KEYS], slots: &mut [Slot]) -> usize
+fn settle(dir: &mut [Entry; KEYS], slots: &mut [Slot]) -> usize
     ensures sound { Kept dir.new slots.new result }
     ensures whole { Whole dir.old (length slots.old) → image_files dir.new slots.new ≡ image_files dir.old slots.old }
     ensures damaged { (k : ℕ) → Damaged dir.old (length slots.old) k → image_files dir.new slots.new ≡ replicate key_count None }
@@ -35,7 +35,7 @@ fn settle(dir: &mut [Option<Entry>; KEYS], slots: &mut [Slot]) -> usize
 
 impl<'a> FlatStore<'a> {
     // An empty store over the caller's memory, whatever that holds: each slot is one unit.
-    pub fn format(dir: &'a mut [Option<Entry>; KEYS], slots: &'a mut [Slot]) -> FlatStore<'a>
+    pub fn format(dir: &'a mut [Entry; KEYS], slots: &'a mut [Slot]) -> FlatStore<'a>
         ensures files { files_in result ≡ replicate key_count None }
         ensures units { units_in result ≡ length slots.old }
     {
@@ -45,7 +45,7 @@ impl<'a> FlatStore<'a> {
 
     // The first key whose entry is damaged, of an image that may be taken up; `None` where it is whole. No entry and no
     // file is touched.
-    pub fn damage(dir: &[Option<Entry>; KEYS], slots: &mut [Slot]) -> Option<usize>
+    pub fn damage(dir: &[Entry; KEYS], slots: &mut [Slot]) -> Option<usize>
         ensures found { MatchOption result (Whole dir.now (length slots.old)) (Damaged dir.now (length slots.old)) }
         ensures files { image_files dir.now slots.new ≡ image_files dir.now slots.old }
     {
@@ -53,7 +53,7 @@ impl<'a> FlatStore<'a> {
     }
 
     // The store of an image that is whole. A damaged one is not trusted: its memory becomes an empty store.
-    pub fn take_up(dir: &'a mut [Option<Entry>; KEYS], slots: &'a mut [Slot]) -> FlatStore<'a>
+    pub fn take_up(dir: &'a mut [Entry; KEYS], slots: &'a mut [Slot]) -> FlatStore<'a>
         ensures whole { Whole dir.old (length slots.old) → files_in result ≡ image_files dir.old slots.old }
         ensures damaged { (k : ℕ) → Damaged dir.old (length slots.old) k → files_in result ≡ replicate key_count None }
         ensures units { units_in result ≡ length slots.old }

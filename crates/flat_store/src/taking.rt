@@ -3,7 +3,7 @@ ghost use Rattle.store.specs.Files.{key_count};
 ghost use Rattle.flat_store.specs.Images.{blank, words_at, Fits};
 ghost use Rattle.flat_store.specs.Taking.{markable, marked, unnamed, Whole, Damaged, Marks, Free};
 
-use crate::cells::{Entry, Slot};
+use crate::cells::{Entry, Extent, Slot};
 use store::keys::KEYS;
 
 fn unmark(slots: &mut [Slot])
@@ -15,17 +15,17 @@ fn unmark(slots: &mut [Slot])
     }
 }
 
-// Marks the slot that an entry names; false where it names none, one that is marked, or too many words.
-fn mark(entry: Entry, slots: &mut [Slot]) -> bool
-    ensures answer { result ≡ markable slots.old entry }
-    ensures slots { slots.new ≡ (if result then marked slots.old entry.slot else slots.old) }
-    ensures fits { result ≡ true → Fits slots.old (Some entry) }
+// Marks the slot of a file; false where it is not there, is marked already, or has too few words.
+fn mark(extent: Extent, slots: &mut [Slot]) -> bool
+    ensures answer { result ≡ markable slots.old extent }
+    ensures slots { slots.new ≡ (if result then marked slots.old extent.slot else slots.old) }
+    ensures fits { result ≡ true → Fits slots.old (Some extent) }
 {
-    if entry.slot >= slots.len() {
+    if extent.slot >= slots.len() {
         return false;
     }
-    let slot = &mut slots[entry.slot];
-    if slot.words.get(..entry.len).is_none() || slot.spare != 0 {
+    let slot = &mut slots[extent.slot];
+    if slot.words.get(..extent.len).is_none() || slot.spare != 0 {
         return false;
     }
     slot.spare = 1;
@@ -33,17 +33,17 @@ fn mark(entry: Entry, slots: &mut [Slot]) -> bool
 }
 
 // The first key whose entry is damaged. Files and entries stay as they are, and the marks tell the slots that no file has.
-pub(crate) fn look_through(dir: &[Option<Entry>; KEYS], slots: &mut [Slot]) -> Option<usize>
+pub(crate) fn look_through(dir: &[Entry; KEYS], slots: &mut [Slot]) -> Option<usize>
     ensures found { MatchOption result (Whole dir.now (length slots.old)) (Damaged dir.now (length slots.old)) }
     ensures marks { IfNone result (Marks dir.now slots.new key_count) }
     ensures words { (p : ℕ) → words_at slots.new p ≡ words_at slots.old p }
 {
     unmark(slots);
     for (k, entry) in dir.iter().enumerate() {
-        let Some(entry) = entry else {
+        let Some(extent) = entry.extent() else {
             continue;
         };
-        if !mark(*entry, slots) {
+        if !mark(extent, slots) {
             return Some(k);
         }
     }

@@ -60,7 +60,7 @@ fn refused(rt: &HostRuntime, name: &str, damage: Option<usize>) -> anyhow::Resul
 // two images lend different memory, and no trait speaks of images.
 fn flat_again(
     rt: &HostRuntime,
-    dir: &mut [Option<Entry>; KEYS],
+    dir: &mut [Entry; KEYS],
     slots: &mut [Slot],
     model: &Model,
 ) -> anyhow::Result<()> {
@@ -85,7 +85,7 @@ fn blocks_again(
 }
 
 fn main(rt: HostRuntime) -> anyhow::Result<()> {
-    let mut dir = [None; KEYS];
+    let mut dir = [Entry::EMPTY; KEYS];
     let mut slots = [Slot::BLANK; 6];
     let mut flat = FlatStore::format(&mut dir, &mut slots);
     let model = trial(&rt, "flat image", &mut flat, 6)?;

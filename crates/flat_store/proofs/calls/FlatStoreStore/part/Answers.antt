@@ -1,12 +1,12 @@
 use Rattle.std.proofs.Common.{◌≡◌, ◌<◌, Some, rules}
 use Rattle.store.specs.Files.{key_count}
-use Rattle.flat_store.specs.Images.{entry_at}
+use Rattle.flat_store.specs.Images.{extent_at}
 use Rattle.flat_store.proofs.Images.{part_first}
 use Rattle.flat_store.proofs.calls.FlatStoreStore.part.Goals as goal
 
-pub returns-in-Some-Some : goal.returns-in-Some-Some
-returns-in-Some-Some c =
+pub returns-in-Some : goal.returns-in-Some
+returns-in-Some c =
     let m = c.args.self.now in
     let kl : c.args.key < key_count = search rules in
-    let on : entry_at m.dir.now c.args.key ≡ Some c.in-Some-Some.entry = search rules in
-    part_first m.dir.now m.slots.now m.free m.sound c.args.key kl c.in-Some-Some.entry on c.args.at c.if-at-eq0.true
+    let on : extent_at m.dir.now c.args.key ≡ Some c.in-Some.extent = search rules in
+    part_first m.dir.now m.slots.now m.free m.sound c.args.key kl c.in-Some.extent on c.args.at c.if-at-eq0.true
