@@ -18,7 +18,8 @@ impl FlatStore<'_> {
         ensures is { result ≡ choice self.now.slots.now self.now.free (extent_at self.now.dir.now key) }
         ensures inside { IfSome result (λ q. q.0 < length self.now.slots.now) }
     {
-        if let Some(extent) = self.dir[key].extent() {
+        let entry = self.dir[key];
+        if let Some(extent) = entry.extent() {
             return Some((extent.slot, self.free));
         }
         let left = self.free.checked_sub(1)?;
@@ -101,7 +102,7 @@ impl Store for FlatStore<'_> {
 
     fn part(&self, key: usize, at: usize) -> &[u32] {
         let slots = &*self.slots;
-        match self.dir.get(key).copied().and_then(Entry::extent) {
+        match self.dir.get(key).and_then(Entry::extent) {
             Some(extent) if at == 0 => &slots[extent.slot].words[..extent.len],
             _ => &[],
         }

@@ -35,8 +35,8 @@ impl Entry {
     };
 
     // Where the file of the entry lies, if it holds one.
-    pub(crate) fn extent(self) -> Option<Extent>
-        ensures { result ≡ extent_of self }
+    pub(crate) fn extent(&self) -> Option<Extent>
+        ensures { result ≡ extent_of self.now }
     {
         self.held.then_some(Extent {
             slot: self.slot,
