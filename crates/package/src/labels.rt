@@ -1,4 +1,4 @@
-ghost use Rattle.std.specs.Prelude.{◌≡◌, Some, MatchOption, MatchResult};
+ghost use Rattle.std.specs.Prelude.{◌≡◌, Decides, Some, MatchOption, MatchResult};
 ghost use Rattle.package.specs.Accepted.{package_refusal};
 ghost use Rattle.package.specs.Labels.{Bears, Labelling, label_of};
 
@@ -10,8 +10,10 @@ use base::Refusal;
 
 impl Package<'_> {
     // The package without its words, to be kept when they are changed, moved or let go.
+    #[tactic(auto, using(crate::proofs::Placed::reading_of))]
     pub fn label(&self) -> Label
-        ensures { result ≡ label_of self.now }
+        ensures is { result ≡ label_of self.now }
+        ensures labelling { Labelling self.now.words.now result }
     {
         Label {
             name: self.name,
@@ -34,13 +36,20 @@ impl Label {
         }
     }
 
+    // Whether a package has the label's name and version.
+    fn is_of(&self, new: &Package<'_>) -> bool
+        ensures { Decides result ((new.now.name ≡ self.now.name) × (new.now.version ≡ self.now.version)) }
+    {
+        new.name == self.name && new.version == self.version
+    }
+
     // The package again, if the words that are handed in bear its name and version. They are read anew, so that words with
     // a fault, or of another package, are not taken for its own.
     pub fn package<'a>(&self, words: &'a [u32]) -> Option<Package<'a>>
         ensures { MatchOption result (Bears words.now self.now → ⊥) (λ p. Bears words.now self.now × (p.words.now ≡ words.now) × (p.name ≡ self.now.name) × (p.version ≡ self.now.version)) }
     {
         match read_package(words) {
-            Ok(new) if new.name == self.name && new.version == self.version => Some(new),
+            Ok(new) if self.is_of(&new) => Some(new),
             _ => None,
         }
     }
