@@ -47,7 +47,8 @@ pub fn labelled_paths(new: &Label, words: &[u32]) -> PathSet
 }
 
 impl Before {
-    // Puts all back, and answers how many files returned. Whatever the files were laid over is there again.
+    // Puts all back. Whatever the files were laid over is there again. Answers how many files were set aside, whatever the
+    // words are; in words of another package they still are.
     #[tactic(auto, using(crate::proofs::Goods::labelled_files))]
     pub fn put_back_labelled<S: Store>(self, store: &mut S, new: &Label, words: &[u32]) -> usize
         ensures count { result ≡ self.aside }
@@ -67,7 +68,7 @@ impl Before {
 }
 
 impl Past {
-    // Lets go all that was set aside, and answers how many files went.
+    // Lets go all that was set aside. Answers how many files that was, whatever the words are.
     #[tactic(auto, using(crate::proofs::Goods::labelled_files))]
     pub fn discard_labelled<S: Store>(self, store: &mut S, new: &Label, words: &[u32]) -> usize
         ensures count { result ≡ self.aside }
