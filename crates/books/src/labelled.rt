@@ -1,5 +1,5 @@
 ghost use Rattle.std.specs.Prelude.{◌≡◌, ◌+◌, ◌≤◌, [], length};
-ghost use Rattle.package.specs.Labels.{Bears, Labelling};
+ghost use Rattle.package.specs.Labels.{Bears};
 ghost use Rattle.steps.specs.Goods.{goods_in};
 ghost use Rattle.books.specs.Limits.{owners_most};
 ghost use Rattle.books.specs.Ledger.{ledger};
@@ -16,7 +16,7 @@ use package::Label;
 impl<'a> Books<'a> {
     // The paths of the package's files are owned by it from now on, if there is room for those that have no owner.
     pub fn own_labelled(&mut self, name: ShortText, new: &Label, words: &[u32])
-        ensures owned { Labelling words.now new.now → length (ledger self.old).owners + fresh_count (owners_in (ledger self.old).owners) (goods_in words.now).files ≤ owners_most → FilesOwned name (goods_in words.now).files (ledger self.old).owners (ledger self.new).owners }
+        ensures owned { Bears words.now new.now → length (ledger self.old).owners + fresh_count (owners_in (ledger self.old).owners) (goods_in words.now).files ≤ owners_most → FilesOwned name (goods_in words.now).files (ledger self.old).owners (ledger self.new).owners }
         ensures other { (Bears words.now new.now → ⊥) → (ledger self.new).owners ≡ (ledger self.old).owners }
         ensures records { (ledger self.new).records ≡ (ledger self.old).records }
         ensures lines { (ledger self.new).lines ≡ (ledger self.old).lines }
@@ -29,7 +29,7 @@ impl<'a> Books<'a> {
 
     // What the owners say of the package's files.
     pub fn survey_labelled(&self, name: ShortText, new: &Label, words: &[u32]) -> Survey
-        ensures surveyed { Labelling words.now new.now → Surveyed name (owners_in (ledger self.now).owners) (goods_in words.now).files result }
+        ensures surveyed { Bears words.now new.now → Surveyed name (owners_in (ledger self.now).owners) (goods_in words.now).files result }
         ensures other { (Bears words.now new.now → ⊥) → Surveyed name (owners_in (ledger self.now).owners) [] result }
     {
         match new.package(words) {
