@@ -53,7 +53,7 @@ impl<'a> FlatStore<'a> {
     }
 
     // The store of an image that is whole. A damaged one is not trusted: its memory becomes an empty store.
-    pub fn take_up(dir: &'a mut [Entry; KEYS], slots: &'a mut [Slot]) -> FlatStore<'a>
+    pub fn take_up<'b: 'a>(dir: &'b mut [Entry; KEYS], slots: &'a mut [Slot]) -> FlatStore<'a>
         ensures whole { Whole dir.old (length slots.old) → files_in result ≡ image_files dir.old slots.old }
         ensures damaged { (k : ℕ) → Damaged dir.old (length slots.old) k → files_in result ≡ replicate key_count None }
         ensures units { units_in result ≡ length slots.old }
