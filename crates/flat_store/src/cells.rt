@@ -12,9 +12,9 @@ pub struct Entry {
     pub len: usize,
 }
 
-// The words of a file: so many from the start of a slot.
+// The words of a file: so many from the start of a slot. Public, since definitions and theorems over a flat image speak of it.
 #[derive(Clone, Copy)]
-pub(crate) struct Extent {
+pub struct Extent {
     pub slot: usize,
     pub len: usize,
 }
